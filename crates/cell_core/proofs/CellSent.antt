@@ -42,7 +42,7 @@ module _ (R : RattleType) (γ : Names) where
   told_keyless busy = tt
   told_keyless (full x) = (tt, tt)
   told_keyless broken = (tt, (tt, tt))
-  told_keyless broken_by_owner = (tt, tt)
+  told_keyless broken_by_owner = ((tt, tt), (λ _. tt))
 
   tie_keyless : (α : Lft) (δ : GName) (b e : ℕ) (s : Phase R.Denot) → Keyless (tie R γ α δ b e s)
   tie_keyless α δ b e free = tt

@@ -20,8 +20,8 @@ use contract.Monad as monad
 use Rattle.core.proofs.once.Turns.{one_value}
 use Rattle.core.proofs.cell.Borrows.{by_one}
 use Rattle.cell_core.specs.Member.{HasNames, IsStateOf, MayBeStateOf, IsEpochOf, unfilled, known_as}
-use Rattle.cell_core.specs.Slot.{Names, IsPlain, fact, free, begun, busy, full, broken, broken_by_owner, state, stage, broken_mark, was_broken, broken_once, content, mark, written, place, auths, unset, setting, fill_added, break_added, over, broken_unset, reserved, told, seat, inside, Room, tie, lent, bare, cell, Right, FirstRight, gained, won, sighted, sights}
-use Rattle.tie_core.specs.Tie.{Tie, Stage, Idle, Begun, stage_number, IsTied, Step, begins as beginning, looks as looking, fills as filling, breaks as breaking, mends as mending, Shows, Moves, Gives, HasMade, Made, seat_at, left, update}
+use Rattle.cell_core.specs.Slot.{Names, IsPlain, HasNoSeat, ShowsOwner, fact, writer_state, writer_stage, free, begun, busy, full, broken, broken_by_owner, state, stage, broken_mark, was_broken, broken_once, content, mark, written, place, auths, unset, setting, fill_added, break_added, over, broken_unset, reserved, told, seat, inside, Room, tie, lent, bare, cell, Right, FirstRight, gained, won, sighted, sights}
+use Rattle.tie_core.specs.Tie.{Tie, Stage, Idle, Begun, Mending, Filled, Broken, stage_number, IsHeld, IsTied, Step, begins as beginning, looks as looking, fills as filling, breaks as breaking, mends as mending, Shows, Moves, Gives, HasMade, Made, seat_at, left, update}
 use Rattle.cell_core.proofs.WordSteps.{S, Next, Law}
 
 abbrev head : Gv → Gv
@@ -46,6 +46,37 @@ fill_small false = omega arith
 pub break_small : (first : Bool) → break_added first < 7
 break_small true = omega arith
 break_small false = omega arith
+
+-- a cell that one call has, and whose state is that of an empty one, is begun
+pub held_at_zero : (s : Stage) → Shows s 0 → IsHeld s → s ≡ Begun
+held_at_zero Idle shows is = absurd is
+held_at_zero Begun shows is = refl
+held_at_zero Mending shows is = absurd (let z : 0 ≡ 1 = shows in omega (arith, z))
+held_at_zero Filled shows is = absurd is
+held_at_zero Broken shows is = absurd is
+
+-- one whose state is that of a busy one is being mended
+held_at_one : (s : Stage) → Shows s 1 → IsHeld s → s ≡ Mending
+held_at_one Idle shows is = absurd is
+held_at_one Begun shows is = absurd (let z : 1 ≡ 0 = shows in omega (arith, z))
+held_at_one Mending shows is = refl
+held_at_one Filled shows is = absurd is
+held_at_one Broken shows is = absurd is
+
+held_by : (first : Bool) (n : ℕ) (s : Stage) → n ≡ writer_state first → Shows s n → IsHeld s → s ≡ writer_stage first
+held_by true n s at shows is = held_at_zero s (subst (λ (m : ℕ). Shows s m) at shows) is
+held_by false n s at shows is = held_at_one s (subst (λ (m : ℕ). Shows s m) at shows) is
+
+-- what a writer that found its cell made
+pub made_filled : (first : Bool) (n : ℕ) (m : Made) → n ≡ writer_state first → HasMade filling n (Some m) → Some m ≡ Some (writer_stage first, Filled)
+made_filled first n m at has = let from = held_by first n m.0 at has.0.0 has.0.1 in let is : m ≡ (writer_stage first, Filled) = λ i. (from i, has.0.2 i) in ap Some is
+
+pub made_broken : (first : Bool) (n : ℕ) (m : Made) → n ≡ writer_state first → HasMade breaking n (Some m) → Some m ≡ Some (writer_stage first, Broken)
+made_broken first n m at has = let from = held_by first n m.0 at has.0.0 has.0.1 in let is : m ≡ (writer_stage first, Broken) = λ i. (from i, has.0.2 i) in ap Some is
+
+-- a formula, and that a step found this state
+abbrev pub found_at : Fml → ℕ → ℕ → Fml
+found_at P c n = fsep P (fact (n ≡ c))
 
 some_is_tied : (t : Tie) → Some t ≡ None → ⊥
 some_is_tied t e = cc
@@ -183,7 +214,7 @@ module _ {M : Type 1} {𝓤 : Ura M} (𝓛 : Logic 𝓤) (R : RattleType) (γ : 
   shows_with busy = qed 𝓛 (‵ (told R γ busy) ∷ []) ∵ nothing ! $ move ! (1 ∷ []) $ done !
   shows_with (full x) = qed 𝓛 (‵ (told R γ (full x)) ∷ []) ∵ fsplit ! $ move ! (1 ∷ []) $ res_dup ! $ move ! (2 ∷ 0 ∷ []) $ fjoin ! $ done !
   shows_with broken = qed 𝓛 (‵ (told R γ broken) ∷ []) ∵ fsplit ! $ move ! (1 ∷ []) $ fsplit ! $ res_dup ! $ move ! (0 ∷ 2 ∷ []) $ fjoin ! $ move ! (2 ∷ 0 ∷ []) $ fjoin ! $ done !
-  shows_with broken_by_owner = qed 𝓛 (‵ (told R γ broken_by_owner) ∷ []) ∵ fsplit ! $ res_dup ! $ move ! (0 ∷ 2 ∷ []) $ fjoin ! $ done !
+  shows_with broken_by_owner = qed 𝓛 (‵ (told R γ broken_by_owner) ∷ []) ∵ fsplit ! $ fsplit ! $ res_dup ! $ move ! (0 ∷ 2 ∷ []) $ fjoin ! $ move ! (0 ∷ 2 ∷ []) $ fjoin ! $ done !
 
   looked : (s : S R) → ⟦ Cell s ⟧ ⊢ ⟦ Cell s ⟧ ∗ ⟦ Sights (state s) ⟧
   looked s = qed 𝓛 (‵ (Cell s) ∷ []) ∵ fsplit3 ! $ move ! (1 ∷ []) $ use1 𝓛 (‵ (told R γ s) ⊛ ‵ (sighted R γ (state s) (seen_of s))) (shows_with s) $ split ! $
@@ -217,7 +248,7 @@ module _ {M : Type 1} {𝓤 : Ura M} (𝓛 : Logic 𝓤) (R : RattleType) (γ : 
       move ! (2 ∷ 1 ∷ 0 ∷ []) $ by ! seized
 
   unbreaks_owned : ⟦ Cell broken_by_owner ⟧ ∗ ⟦ over R γ ⟧ ⊢ ⟦ Cell busy ⟧ ∗ ⟦ Right R γ α δ b e ⟧
-  unbreaks_owned = qed 𝓛 (‵ (Cell broken_by_owner) ∷ ‵ (over R γ) ∷ []) ∵ fsplit3 ! $ move ! (1 ∷ []) $ fsplit ! $ drop ! $
+  unbreaks_owned = qed 𝓛 (‵ (Cell broken_by_owner) ∷ ‵ (over R γ) ∷ []) ∵ fsplit3 ! $ move ! (1 ∷ []) $ fsplit ! $ fsplit ! $ drop ! $ move ! (1 ∷ []) $ drop ! $
       -- [the right to set; the names; the room; the epoch has ended]
       move ! (1 ∷ 3 ∷ 0 ∷ []) $ by ! seized
 
@@ -265,6 +296,28 @@ module _ {M : Type 1} {𝓤 : Ura M} (𝓛 : Logic 𝓤) (R : RattleType) (γ : 
   pub mends_bare : BareLaw (moved mending) (λ c. bit_and c (15 - 4)) (Won 5) (emp 𝓤)
   mends_bare = alone (moved mending) 5 mending_by mends_at
 
+  -- only a cell without a seat is one that an owner broke
+  shows_owner : (s : S R) → ⟦ Cell s ⟧ ⊢ guard 𝓤 (ShowsOwner γ.tied (state s)) ⟦ Cell s ⟧
+  shows_owner free = qed 𝓛 (‵ (Cell free) ∷ []) ∵ check ! (λ more filled other. absurd (let l : 1 < 0 = more in omega (arith, l))) $ done !
+  shows_owner begun = qed 𝓛 (‵ (Cell begun) ∷ []) ∵ check ! (λ more filled other. absurd (let l : 1 < 0 = more in omega (arith, l))) $ done !
+  shows_owner busy = qed 𝓛 (‵ (Cell busy) ∷ []) ∵ check ! (λ more filled other. absurd (let l : 1 < 1 = more in omega (arith, l))) $ done !
+  shows_owner (full x) = qed 𝓛 (‵ (Cell (full x)) ∷ []) ∵ check ! (λ more filled other. absurd (filled refl)) $ done !
+  shows_owner broken = qed 𝓛 (‵ (Cell broken) ∷ []) ∵ check ! (λ more filled other. absurd (other refl)) $ done !
+  shows_owner broken_by_owner = qed 𝓛 (‵ (Cell broken_by_owner) ∷ []) ∵ fsplit3 ! $ move ! (1 ∷ []) $ fsplit ! $ move ! (1 ∷ []) $ fpick ! (λ none. check ! (λ more filled other. none) $
+      -- [true; what a broken cell has; the names; the room]
+      fpack ! (HasNoSeat γ.tied) (λ _. ftrue) none $ move ! (1 ∷ 0 ∷ []) $ fjoin ! $ move ! (1 ∷ 0 ∷ 2 ∷ []) $ fjoin3 ! $ done !)
+
+  -- what a mender gains, and whether an owner broke the cell
+  abbrev pub Taken : ℕ → Fml
+  Taken n = fsep (Won 5 n) (fact (ShowsOwner γ.tied n))
+
+  pub mends_shown : BareLaw (moved mending) (λ c. bit_and c (15 - 4)) Taken (emp 𝓤)
+  mends_shown s = let N : S R → Pr = BareNext (moved mending) mending_by Taken s in let n : ℕ = state s in
+      qed 𝓛 (‵ (Cell s) ∷ raw (emp 𝓤) ∷ []) ∵ suffices ! _ (upd_i 𝓤 (ex 𝓤 N)) $ keep ! (0 ∷ []) $
+      use1 𝓛 (given (ShowsOwner γ.tied n) (‵ (Cell s))) (shows_owner s) $ learn ! (λ so.
+      use1 𝓛 (some (λ (z : S R). given ((state z ≡ mending_by n) × moved mending s z) (‵ (Cell z) ⊛ ‵ (Won 5 n)))) (mends_at s) $ pick ! (λ z. learn ! (λ is. split ! $ show ! N z $ check ! is $
+      nothing ! $ fpack ! (ShowsOwner γ.tied n) (λ _. ftrue) so $ move ! (2 ∷ 0 ∷ []) $ fjoin ! $ move ! (1 ∷ 0 ∷ []) $ done !)))
+
   pub mends : IsPlain γ → Law 𝓛 R α b γ δ e (λ c. bit_and c (15 - 4)) (Won 5) (emp 𝓤)
   mends plain = untied (moved mending) mending_by (Won 5) (emp 𝓤) plain mends_bare
 
@@ -285,8 +338,8 @@ module _ {M : Type 1} {𝓤 : Ura M} (𝓛 : Logic 𝓤) (R : RattleType) (γ : 
       use2 𝓛 (given (gnil ≡ mark R (full y)) (‵ (fobs n gnil) ⊛ ‵ (fauth n (mark R (full y))))) (𝓛.names.name_agree n gnil (mark R (full y))) $ learn ! (λ e. absurd (let z : 0 ≡ 1 = ap paired e in omega arith))
   only_busy rel g after X law broken = let Z : Pr = ex 𝓤 (BareNext rel g after broken) in qed 𝓛 (‵ (Cell broken) ∷ ‵ (unset R γ) ∷ raw X ∷ []) ∵ fsplit3 ! $ fsplit ! $ move ! (2 ∷ []) $ fsplit ! $ move ! (1 ∷ []) $ fsplit ! $
       keep ! (1 ∷ 6 ∷ 3 ∷ []) $ by ! (two_rights gnil Z)
-  only_busy rel g after X law broken_by_owner = let Z : Pr = ex 𝓤 (BareNext rel g after broken_by_owner) in qed 𝓛 (‵ (Cell broken_by_owner) ∷ ‵ (unset R γ) ∷ raw X ∷ []) ∵ fsplit3 ! $ fsplit ! $ move ! (2 ∷ []) $ fsplit ! $
-      keep ! (1 ∷ 5 ∷ 2 ∷ []) $ by ! (two_rights gnil Z)
+  only_busy rel g after X law broken_by_owner = let Z : Pr = ex 𝓤 (BareNext rel g after broken_by_owner) in qed 𝓛 (‵ (Cell broken_by_owner) ∷ ‵ (unset R γ) ∷ raw X ∷ []) ∵ fsplit3 ! $ fsplit ! $ move ! (2 ∷ []) $ fsplit ! $ fsplit ! $
+      keep ! (1 ∷ 6 ∷ 3 ∷ []) $ by ! (two_rights gnil Z)
   only_busy rel g after X law begun = let Z : Pr = ex 𝓤 (BareNext rel g after begun) in let n : GName = γ.value_name in qed 𝓛 (‵ (Cell begun) ∷ ‵ (unset R γ) ∷ raw X ∷ []) ∵ fsplit3 ! $ fsplit ! $ move ! (4 ∷ 0 ∷ []) $
       use2 𝓛 (given (gnil ≡ mark R begun) (‵ (fobs n gnil) ⊛ ‵ (fauth n (mark R begun)))) (𝓛.names.name_agree n gnil (mark R begun)) $ learn ! (λ e. absurd (let z : 0 ≡ 1 = ap numbered e in omega arith))
 
@@ -347,10 +400,21 @@ module _ {M : Type 1} {𝓤 : Ura M} (𝓛 : Logic 𝓤) (R : RattleType) (γ : 
   pub publishes_first : (x : R.Denot) → BareLaw (moved filling) (λ c. c + 3) (λ _. written R γ.value_name x) (⟦ reserved R γ ⟧ ∗ (⟦ over R γ ⟧ ∗ ⟦ frozen x ⟧))
   publishes_first x = only_begun (moved filling) (λ c. c + 3) (λ _. written R γ.value_name x) (⟦ over R γ ⟧ ∗ ⟦ frozen x ⟧) (publishes_at begun 3 x refl (refl, tt, refl))
 
+  -- what a step leaves that finds a phase, with the state of this phase
+  finds_state : (rel : S R → S R → Type 0) (g : ℕ → ℕ) (P : Fml) (s : S R) (X : Pr) → X ⊢ upd 𝓤 (ex 𝓤 (BareNext rel g (λ _. P) s)) → X ⊢ upd 𝓤 (ex 𝓤 (BareNext rel g (found_at P (state s)) s))
+  finds_state rel g P s X law = let n : ℕ = state s in let N : S R → Pr = BareNext rel g (found_at P n) s in let Z : Pr = ex 𝓤 N in
+      qed 𝓛 (raw X ∷ []) ∵ use1 𝓛 (raw (upd 𝓤 (ex 𝓤 (BareNext rel g (λ _. P) s)))) law $ settle 𝓛 Z (some (λ (x : S R). given ((state x ≡ g n) × rel s x) (‵ (Cell x) ⊛ ‵ P))) $ pick ! (λ x. learn ! (λ so. split ! $ suffices ! _ (upd_i 𝓤 Z) $ show ! N x $ check ! so $
+      nothing ! $ fpack ! (n ≡ n) (λ _. ftrue) refl $ move ! (2 ∷ 0 ∷ []) $ fjoin ! $ move ! (1 ∷ 0 ∷ []) $ done !))
+
   -- the same, by whether the writer is the first
   pub publishes_by : (first : Bool) (x : R.Denot) → BareLaw (moved filling) (λ c. c + fill_added first) (λ _. written R γ.value_name x) (⟦ setting R γ first ⟧ ∗ (⟦ over R γ ⟧ ∗ ⟦ frozen x ⟧))
   publishes_by true x = publishes_first x
   publishes_by false x = publishes_bare x
+
+  -- the same, with the state that the writer finds
+  pub publishes_at_its : (first : Bool) (x : R.Denot) → BareLaw (moved filling) (λ c. c + fill_added first) (found_at (written R γ.value_name x) (writer_state first)) (⟦ setting R γ first ⟧ ∗ (⟦ over R γ ⟧ ∗ ⟦ frozen x ⟧))
+  publishes_at_its true x = let W : Fml = written R γ.value_name x in let X : Pr = ⟦ over R γ ⟧ ∗ ⟦ frozen x ⟧ in only_begun (moved filling) (λ c. c + 3) (found_at W 0) X (finds_state (moved filling) (λ c. c + 3) W begun (⟦ Cell begun ⟧ ∗ (⟦ reserved R γ ⟧ ∗ X)) (publishes_at begun 3 x refl (refl, tt, refl)))
+  publishes_at_its false x = let W : Fml = written R γ.value_name x in let X : Pr = ⟦ over R γ ⟧ ∗ ⟦ frozen x ⟧ in only_busy (moved filling) (λ c. c + 2) (found_at W 1) X (finds_state (moved filling) (λ c. c + 2) W busy (⟦ Cell busy ⟧ ∗ (⟦ unset R γ ⟧ ∗ X)) (publishes_at busy 2 x refl (refl, tt, refl)))
 
   pub publishes : IsPlain γ → (x : R.Denot) → Law 𝓛 R α b γ δ e (λ c. c + 2) (λ _. written R γ.value_name x) (⟦ unset R γ ⟧ ∗ (⟦ over R γ ⟧ ∗ ⟦ frozen x ⟧))
   publishes plain x = untied (moved filling) (λ c. c + 2) (λ _. written R γ.value_name x) (⟦ unset R γ ⟧ ∗ (⟦ over R γ ⟧ ∗ ⟦ frozen x ⟧)) plain (publishes_bare x)
@@ -383,6 +447,11 @@ module _ {M : Type 1} {𝓤 : Ura M} (𝓛 : Logic 𝓤) (R : RattleType) (γ : 
   pub breaks_by : (first : Bool) → BareLaw (moved breaking) (λ c. c + break_added first) (λ _. was_broken γ.broken_name) (⟦ setting R γ first ⟧ ∗ (⟦ over R γ ⟧ ∗ ⟦ rest free ⟧))
   breaks_by true = breaks_first
   breaks_by false = breaks_bare
+
+  -- the same, with the state that the writer finds
+  pub breaks_at_its : (first : Bool) → BareLaw (moved breaking) (λ c. c + break_added first) (found_at (was_broken γ.broken_name) (writer_state first)) (⟦ setting R γ first ⟧ ∗ (⟦ over R γ ⟧ ∗ ⟦ rest free ⟧))
+  breaks_at_its true = let W : Fml = was_broken γ.broken_name in let X : Pr = ⟦ over R γ ⟧ ∗ ⟦ rest free ⟧ in only_begun (moved breaking) (λ c. c + 5) (found_at W 0) X (finds_state (moved breaking) (λ c. c + 5) W begun (⟦ Cell begun ⟧ ∗ (⟦ reserved R γ ⟧ ∗ X)) (breaks_at begun 5 refl (refl, tt, refl)))
+  breaks_at_its false = let W : Fml = was_broken γ.broken_name in let X : Pr = ⟦ over R γ ⟧ ∗ ⟦ rest free ⟧ in only_busy (moved breaking) (λ c. c + 4) (found_at W 1) X (finds_state (moved breaking) (λ c. c + 4) W busy (⟦ Cell busy ⟧ ∗ (⟦ unset R γ ⟧ ∗ X)) (breaks_at busy 4 refl (refl, tt, refl)))
 
   pub breaks : IsPlain γ → Law 𝓛 R α b γ δ e (λ c. c + 4) (λ _. was_broken γ.broken_name) (⟦ unset R γ ⟧ ∗ (⟦ over R γ ⟧ ∗ ⟦ rest free ⟧))
   breaks plain = untied (moved breaking) (λ c. c + 4) (λ _. was_broken γ.broken_name) (⟦ unset R γ ⟧ ∗ (⟦ over R γ ⟧ ∗ ⟦ rest free ⟧)) plain breaks_bare

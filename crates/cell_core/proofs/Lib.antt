@@ -2,6 +2,7 @@ mod Fields
 mod Both
 mod WordSteps
 mod Twice
+mod Stages
 mod CellSteps
 mod RunSteps
 mod TiedRuns
@@ -15,10 +16,13 @@ mod CellLends
 mod RestParts
 mod LaidParts
 mod LaidMade
+mod FixedCells
 mod Untied
 mod RunParts
 mod RunFields
+mod StageRows
 mod SliceSteps
 mod SliceParts
 mod PlainCells
+mod FoundCells
 mod Moulds

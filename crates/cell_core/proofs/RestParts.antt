@@ -21,7 +21,7 @@ use denote.Param.{param, layout}
 use denote.Param.Laws.{Laws, param_laws}
 use denote.Struct.Members.{Member}
 use Rattle.core.proofs.cell.Inside.{spread}
-use Rattle.cell_core.specs.Slot.{Names, cell_in, Phase, free, begun, busy, full, broken, broken_by_owner, state, Lies, Rest, fact, place, resting, mark, broken_mark, broken_once, auths, unset, settable, written, was_broken}
+use Rattle.cell_core.specs.Slot.{Names, HasNoSeat, cell_in, Phase, free, begun, busy, full, broken, broken_by_owner, state, Lies, Rest, fact, place, resting, mark, broken_mark, broken_once, auths, unset, settable, written, was_broken}
 use Rattle.cell_core.specs.Laid.{IsAnother, IsFixedAt, lying}
 use Rattle.cell_core.specs.Member.{IsUnset}
 use Rattle.tie_core.specs.Tie.{Tie, Stage, Idle, Filled, Broken, seat_at, fixed_at}
@@ -30,6 +30,14 @@ use Rattle.cell_core.proofs.CellSteps.{one_written}
 -- a cell that is put at an index with the tie of the former one, fixed at a stage
 pub fixed_set : (γs : List Names) (i : ℕ) (γ : Names) (s : Stage) → i < length γs → γ.tied ≡ fixed_at (cell_in γs i).tied s → IsFixedAt γs i (set γs i γ) s
 fixed_set γs i γ s near is = ap (λ (u : Names). u.tied) (get_or-set_same γs i γ (record { value_name = 0; broken_name = 0; epoch = []; tied = None }) near) ∙ is
+
+some_stage : (s : Stage) → Some s ≡ None → ⊥
+some_stage s e = cc
+
+-- a cell whose tie is fixed has no seat
+pub no_seat : (τ : Option Tie) (s : Stage) → HasNoSeat (fixed_at τ s)
+no_seat None s = tt
+no_seat (Some t) s = some_stage s
 
 -- what the room of a cell holds is given up
 pub emptied : (T : RattleType) (L : Laws T) {M : Type 1} {𝓤 : Ura M} (𝓛 : Logic 𝓤) (b e : ℕ) (v : Option T.Denot)
@@ -59,7 +67,7 @@ module _ {M : Type 1} {𝓤 : Ura M} (𝓛 : Logic 𝓤) (R : RattleType) where
   full_is_not_unset x y v e unset = subst IsUnset (sym e) unset
 
   -- a tie that is fixed at a stage has no seat
-  fixed_seat : (τ : Option Tie) (n : Stage) → base.Logic.emp 𝓤 ⊢ ⟦ seat_at (fixed_at τ n) n ⟧
+  pub fixed_seat : (τ : Option Tie) (n : Stage) → base.Logic.emp 𝓤 ⊢ ⟦ seat_at (fixed_at τ n) n ⟧
   fixed_seat None n = id⊢ 𝓤 _
   fixed_seat (Some t) n = qed 𝓛 [] ∵ nothing ! $ fpack ! (n ≡ n) (λ _. ftrue) refl $ done !
 
@@ -198,7 +206,9 @@ module _ {M : Type 1} {𝓤 : Ura M} (𝓛 : Logic 𝓤) (R : RattleType) where
       -- [the right to set; the names; the old ones; the room]
       move ! (1 ∷ []) $ fsplit ! $ move ! (1 ∷ []) $ fpick ! (λ once. use1 𝓛 (later (‵ (broken_once γ'.broken_name true) ⊛ ‵ (was_broken γ'.broken_name))) (sets_broken γ'.broken_name once) $ await ! tt $ split ! $ now ! $ fpack ! Bool (broken_once γ'.broken_name) true $
       -- [the name of a break; broken; the value's name; the right to set; the old ones; the room]
-      move ! (2 ∷ 0 ∷ []) $ fjoin ! $ move ! (1 ∷ 2 ∷ []) $ fjoin ! $ use0 𝓛 (‵ (seat_at γ'.tied Broken)) (seated γ γ' Broken new.2) $ move ! (1 ∷ 0 ∷ []) $ fjoin ! $ move ! (1 ∷ 0 ∷ []) $ fjoin ! $
+      move ! (2 ∷ 0 ∷ []) $ fjoin ! $ move ! (1 ∷ 2 ∷ []) $ fjoin ! $ nothing ! $ fpack ! (HasNoSeat γ'.tied) (λ _. ftrue) (subst HasNoSeat (sym new.2) (no_seat γ.tied Broken)) $ move ! (1 ∷ 0 ∷ []) $ fjoin ! $
+      -- [what goes with the phase; the value's name and that of a break; the old ones; the room]
+      use0 𝓛 (‵ (seat_at γ'.tied Broken)) (seated γ γ' Broken new.2) $ move ! (1 ∷ 0 ∷ []) $ fjoin ! $ move ! (1 ∷ 0 ∷ []) $ fjoin ! $
       nothing ! $ fpack ! (Lies R None broken_by_owner) (λ _. ftrue) refl $ move ! (1 ∷ 0 ∷ []) $ fjoin ! $
       -- [what rests; the old ones; the room]
       move ! (2 ∷ 0 ∷ []) $ fjoin ! $ fjoin ! $ nothing ! $ fpack ! (IsNew γ Broken epoch γ') (λ _. ftrue) new $ fjoin ! $

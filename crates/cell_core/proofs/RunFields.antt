@@ -1,6 +1,8 @@
 -- The same number in several fields of a word.
 use Rattle.std.proofs.Common.{true, eqb, eqb-true, lit<, lt_of_le_of_lt, ◌≡◌, ◌≢◌, ℕ, zero, suc, ◌+◌, ◌-◌, ◌*◌, ◌/◌, ◌%◌, ◌^◌, ◌<◌, ◌≤◌, refl, sym, ap, ◌∙◌, subst, arith, mul-one, mul-zero, mul-add, one-mul, div-add-mod', div-le_self, mod-eq_of_lt, lt_of_lt_of_le, mul-lt-mul_of_pos_right, mul-le-mul_right}
 use native.Mathlib.Nat.{mul_left_comm, pow-succ', div-div-eq-div-mul, mul_assoc, mul_comm}
+use mathlib.Core.Logic.{dite}
+use native.Mathlib.Decide.{dec_lt}
 use lib.Pow.{pow-add, pow_pos, pow_mono}
 use lib.Count.{count_trailing_zeros, trailing_le, under}
 use Rattle.cell_core.specs.Fields.{field, sums}
@@ -126,3 +128,53 @@ pub finds_filled : (w j k : ℕ) → w < 2 ^ 64 → k ≤ count_trailing_zeros 6
 finds_filled w j k fits few l near far = let i : ℕ = j % 16 in let f : ℕ = w / 2 ^ (4 * i) in let m : ℕ = l - i in let is : i + m ≡ l = omega arith in
     ap (λ (x : ℕ). field w x) (sym is) ∙ sym (field_past w i m) ∙ ap (λ (x : ℕ). field (w / x) m) (sym (sixteens i))
     ∙ begins_filled f (lt_of_le_of_lt (div-le_self w (2 ^ (4 * i))) fits) m (omega (arith, few, is, far))
+
+-- the digit after the zeros that are counted is set, if there is one
+set_by : (d t k n : ℕ) → n % 2 ≡ d → under d t < suc k → (t < k → (q : ℕ) × (n / 2 ≡ 2 ^ t * q) × (q % 2 ≡ 1)) → (q : ℕ) × (n ≡ 2 ^ under d t * q) × (q % 2 ≡ 1)
+set_by zero t k n even less rest = let r = rest (omega (arith, less)) in let half = r.1 in let s : 2 ^ suc t * r.0 ≡ 2 * (2 ^ t * r.0) = ap (λ (m : ℕ). m * r.0) (pow-succ' 2 t) ∙ mul_assoc 2 (2 ^ t) r.0 in
+    (r.0, omega (arith, s, half, even), r.2)
+set_by (suc d) t k n odd less rest = (n, sym (one-mul n), omega (arith, odd))
+
+ends_set : (k n : ℕ) → count_trailing_zeros k n < k → (q : ℕ) × (n ≡ 2 ^ count_trailing_zeros k n * q) × (q % 2 ≡ 1)
+unfolding count_trailing_zeros
+ends_set zero n less = absurd (omega (arith, less))
+ends_set (suc k) n less = set_by (n % 2) (count_trailing_zeros k (n / 2)) k n refl less (ends_set k (n / 2))
+
+-- fewer zeros than a field has are no whole field
+not_whole : (r q : ℕ) → r < 4 → q % 2 ≡ 1 → 2 ^ r * q % 16 ≢ 0
+not_whole zero q less odd none = let o = one-mul q in omega (arith, o, odd, none)
+not_whole (suc zero) q less odd none = omega (arith, odd, none)
+not_whole (suc (suc zero)) q less odd none = omega (arith, odd, none)
+not_whole (suc (suc (suc zero))) q less odd none = omega (arith, odd, none)
+not_whole (suc (suc (suc (suc r)))) q less odd none = omega (arith, less)
+
+-- the next field of the difference is not 0, and so the number has no 3 there
+other : (n m e q w : ℕ) → n < m → 16 ^ n * e + sums 3 m 0 ≡ w + q * 16 ^ m → e % 16 ≢ 0 → field w n ≢ 3
+other n zero e q w less is odd three = omega (arith, less)
+other zero (suc m) e q w less is odd three =
+    let o = one-mul e in let s = sums_next 3 m 0 in let b : q * 16 ^ suc m ≡ 16 * (q * 16 ^ m) = ap (λ (x : ℕ). q * x) (pow-succ' 16 m) ∙ mul_left_comm q 16 (16 ^ m) in
+    let first : w % 16 ≡ 3 = field_first w ∙ three in odd (omega (arith, o, s, b, is, first))
+other (suc n) (suc m) e q w less is odd three =
+    let a = shifted n e in let s = sums_next 3 m 0 in let b : q * 16 ^ suc m ≡ 16 * (q * 16 ^ m) = ap (λ (x : ℕ). q * x) (pow-succ' 16 m) ∙ mul_left_comm q 16 (16 ^ m) in
+    let next : 16 ^ n * e + sums 3 m 0 ≡ w / 16 + q * 16 ^ m = omega (arith, a, s, b, is) in
+    other n m e q (w / 16) (omega (arith, less)) next odd (field_next w n ∙ three)
+
+ends_filled : (f : ℕ) → f < 2 ^ 64 → count_trailing_zeros 64 (difference f) / 4 < 16 → field f (count_trailing_zeros 64 (difference f) / 4) ≢ 3
+ends_filled f fits less = let d : ℕ = difference f in let z : ℕ = count_trailing_zeros 64 d in let end = ends_set 64 d (omega (arith, less)) in let e : ℕ = 2 ^ (z % 4) * end.0 in
+    let more : d + 3689348814741910323 ≡ f + (1 - (f + (2 ^ 64 - 3689348814741910323)) / 2 ^ 64) * 2 ^ 64 = omega arith in
+    let is : d ≡ 16 ^ (z / 4) * e = end.1 ∙ whole_fields z end.0 in
+    other (z / 4) 16 e (1 - (f + (2 ^ 64 - 3689348814741910323)) / 2 ^ 64) f less (ap (λ (x : ℕ). x + 3689348814741910323) (sym is) ∙ more) (not_whole (z % 4) end.0 (omega arith) end.2)
+
+-- a number of 64 bits has no more than 16 fields
+past_all : (f : ℕ) → f < 2 ^ 64 → field f 16 ≢ 3
+past_all f fits three = let none : f / 2 ^ 64 ≡ 0 = omega (arith, fits) in let same : f / 16 ^ 16 ≡ f / 2 ^ 64 = refl in omega (arith, three, same, none)
+
+ends_at : (f k : ℕ) → f < 2 ^ 64 → k ≡ count_trailing_zeros 64 (difference f) / 4 → field f k ≢ 3
+ends_at f k fits is three = let low = trailing_le 64 (difference f) in dite (dec_lt k 16)
+    (λ less. ends_filled f fits (subst (λ (n : ℕ). n < 16) is less) (ap (field f) (sym is) ∙ three))
+    (λ far. let whole : k ≡ 16 = omega (arith, low, is, far) in past_all f fits (ap (field f) (sym whole) ∙ three))
+
+-- the field after those that are found filled is not one of a filled cell
+pub finds_other : (w j k : ℕ) → w < 2 ^ 64 → k ≡ count_trailing_zeros 64 (difference (w / 2 ^ (4 * (j % 16)))) / 4 → field w (j % 16 + k) ≢ 3
+finds_other w j k fits is three = let i : ℕ = j % 16 in let f : ℕ = w / 2 ^ (4 * i) in
+    ends_at f k (lt_of_le_of_lt (div-le_self w (2 ^ (4 * i))) fits) is (ap (λ (x : ℕ). field (w / x) k) (sixteens i) ∙ field_past w i k ∙ three)

@@ -14,12 +14,14 @@ use denote.Steps.{nothing}
 use Rattle.core.specs.Sync.RawAtomic.{asks, always}
 use Rattle.core.proofs.raw_atomic.Asked.{borrowed, Lies, Again}
 use Rattle.cell_core.specs.Fields.{pack, field, put, sums}
-use Rattle.cell_core.specs.Slot.{Names, ArePlain, above, floors, Turn, cell_in, state, room_at, word, cells, standing, over, unset, sights, written, right_of, won}
+use Rattle.cell_core.specs.Slot.{Names, ArePlain, fact, above, floors, Turn, cell_in, state, room_at, word, cells, standing, over, unset, sights, written, right_of, won}
 use Rattle.cell_core.specs.Slot.{Cells as all_cells}
 use Rattle.cell_core.specs.Run.{AreAt, AreEmptyIn, Ready, held, all_written, if_won, sights_owned}
+use Rattle.cell_core.specs.Fixed.{ShowStages}
 use Rattle.cell_core.proofs.Both.{borrowed_both}
 use Rattle.cell_core.proofs.Fields.{pack_ap, put_own, add_field, field_of, packed_below, sixteens}
 use Rattle.cell_core.proofs.WordSteps.{S, Law, Row, lifts, put_state, states_fit, above_inv}
+use Rattle.cell_core.proofs.Stages.{also, also_stage}
 use Rattle.cell_core.proofs.CellSteps as steps
 
 -- a function that is changed at one place is the same at later ones
@@ -96,23 +98,33 @@ module _ {M : Type 1} {𝓤 : Ura M} (𝓛 : Logic 𝓤) (R : RattleType) (Γs :
   abbrev pub HaveStatesIn : ℕ → List Names → ℕ → (ℕ → S R) → Type 0
   HaveStatesIn n γs i s = (j : ℕ) → i ≤ j → j < i + length γs → field n j ≡ state (s j)
 
-  -- what a load of a word leaves of its cells, and what it shows of a run
+  -- what a load of a word shows of a run: of each cell what its state shows, and that the state is one of its stage
+  abbrev pub Shown : List Names → ℕ → ℕ → Fml
+  Shown γs i n = fsep (sights_owned R γs i n) (fact (ShowStages γs i n))
+
+  -- what it leaves of the word's cells, and what it shows
   abbrev pub Seen : ℕ → List Names → ℕ → (ℕ → S R) → (ℕ → S R) → Pr
-  Seen n γs i s z = guard 𝓤 (number z ≡ number s) (sep 𝓤 ⟦ Cells z ⟧ ⟦ sights_owned R γs i n ⟧)
+  Seen n γs i s z = guard 𝓤 (number z ≡ number s) (sep 𝓤 ⟦ Cells z ⟧ ⟦ Shown γs i n ⟧)
 
   pub looks_run : (n : ℕ) (γs : List Names) (i : ℕ) → AreAt γs i Γs → (s : ℕ → S R) → HaveStatesIn n γs i s → ent 𝓤 ⟦ Cells s ⟧ (upd 𝓤 (ex 𝓤 (Seen n γs i s)))
-  looks_run n [] i at s has = let Z : Pr = ex 𝓤 (Seen n [] i s) in qed 𝓛 (‵ (Cells s) ∷ []) ∵ suffices ! _ (upd_i 𝓤 Z) $ nothing ! $ move ! (1 ∷ 0 ∷ []) $ show ! (Seen n [] i s) s $ check ! refl $ done !
+  looks_run n [] i at s has = let Z : Pr = ex 𝓤 (Seen n [] i s) in qed 𝓛 (‵ (Cells s) ∷ []) ∵ suffices ! _ (upd_i 𝓤 Z) $ nothing ! $ nothing ! $ fpack ! (ShowStages [] i n) (λ _. ftrue) tt $
+      move ! (1 ∷ 0 ∷ []) $ fjoin ! $ move ! (1 ∷ 0 ∷ []) $ show ! (Seen n [] i s) s $ check ! refl $ done !
   looks_run n (γ ∷ γs) i at s has =
-      let g : ℕ → ℕ = λ k. k in let after : ℕ → Fml = sights R γ in
-      let law : Law 𝓛 R α c (cell_in Γs i) (t.1 i) (room_at R e i) g after (emp 𝓤) = subst (λ (m : Names). Law 𝓛 R α c m (t.1 i) (room_at R e i) g after (emp 𝓤)) (sym at.1) (steps.looks 𝓛 R γ α (t.1 i) c (room_at R e i)) in
+      let g : ℕ → ℕ = λ k. k in let r : ℕ = room_at R e i in let after : ℕ → Fml = also 𝓛 R γ α (t.1 i) c r (sights R γ) in
+      let law : Law 𝓛 R α c (cell_in Γs i) (t.1 i) r g after (emp 𝓤) = subst (λ (m : Names). Law 𝓛 R α c m (t.1 i) r g after (emp 𝓤)) (sym at.1)
+      (also_stage 𝓛 R γ α (t.1 i) c r (sights R γ) (emp 𝓤) (steps.looks 𝓛 R γ α (t.1 i) c r)) in
       let Z : Pr = ex 𝓤 (Seen n (γ ∷ γs) i s) in
       qed 𝓛 (‵ (Cells s) ∷ []) ∵ nothing ! $ move ! (1 ∷ 0 ∷ []) $
       use2 𝓛 (raw (upd 𝓤 (ex 𝓤 (Row 𝓛 R α c Γs t.1 e i g after s)))) (lifts 𝓛 R α c Γs t.1 e i at.0 g after (emp 𝓤) law s) $
       settle 𝓛 Z (some (λ (y : S R). given (state y ≡ g (state (s i))) (‵ (Cells (put i y s)) ⊛ ‵ (after (state (s i)))))) $ pick ! (λ y. learn ! (λ is. split ! $ let u : ℕ → S R = put i y s in
-      rewrite ! 1 (λ (k : ℕ). ‵ (after k)) (sym (has i (omega arith) (omega arith))) refl $
-      use1 𝓛 (raw (upd 𝓤 (ex 𝓤 (Seen n γs (suc i) u)))) (looks_run n γs (suc i) at.2 u (λ j low high. has j (omega arith) (omega arith) ∙ sym (ap state (put_later i y s j (omega arith))))) $
-      settle 𝓛 Z (some (λ (z : ℕ → S R). given (number z ≡ number u) (‵ (Cells z) ⊛ ‵ (sights_owned R γs (suc i) n)))) $ pick ! (λ z. learn ! (λ so. split ! $
-      suffices ! _ (upd_i 𝓤 Z) $ move ! (2 ∷ 1 ∷ []) $ fjoin ! $ move ! (1 ∷ 0 ∷ []) $ show ! (Seen n (γ ∷ γs) i s) z $ check ! (so ∙ same_number s i y is) $ done !))))
+      rewrite ! 1 (λ (k : ℕ). ‵ (after k)) (sym (has i (omega arith) (omega arith))) refl $ move ! (1 ∷ []) $ fsplit ! $ move ! (1 ∷ []) $ fpick ! (λ one. drop ! $
+      -- [what the state shows; the cells]
+      move ! (1 ∷ []) $ use1 𝓛 (raw (upd 𝓤 (ex 𝓤 (Seen n γs (suc i) u)))) (looks_run n γs (suc i) at.2 u (λ j low high. has j (omega arith) (omega arith) ∙ sym (ap state (put_later i y s j (omega arith))))) $
+      settle 𝓛 Z (some (λ (z : ℕ → S R). given (number z ≡ number u) (‵ (Cells z) ⊛ ‵ (Shown γs (suc i) n)))) $ pick ! (λ z. learn ! (λ so. split ! $
+      suffices ! _ (upd_i 𝓤 Z) $ move ! (1 ∷ []) $ fsplit ! $ move ! (1 ∷ []) $ fpick ! (λ others. drop ! $
+      -- [what is shown of the others; the cells; what the state shows]
+      move ! (2 ∷ 0 ∷ []) $ fjoin ! $ nothing ! $ fpack ! (ShowStages (γ ∷ γs) i n) (λ _. ftrue) (one, others) $ move ! (1 ∷ 0 ∷ []) $ fjoin ! $ move ! (1 ∷ 0 ∷ []) $
+      show ! (Seen n (γ ∷ γs) i s) z $ check ! (so ∙ same_number s i y is) $ done !))))))
 
   number_is : (s : ℕ → S R) (j : ℕ) → j < length Γs → field (number s) j ≡ state (s j)
   number_is s j less = field_of Γs (λ l. state (s l)) j (states_fit R s) less
@@ -174,7 +186,7 @@ module _ {M : Type 1} {𝓤 : Ura M} (𝓛 : Logic 𝓤) (R : RattleType) (Γs :
         suffices ! _ (upd_i 𝓤 Z) $ show ! (Whole Adds (λ _. all_written R γs xs) s) z $ check ! (is ∙ sym (mod-eq_of_lt fits)) $ done !))
 
   module _ (γs : List Names) (i : ℕ) (at : AreAt γs i Γs) where
-    looks_by : (s : ℕ → S R) → ent 𝓤 (sep 𝓤 ⟦ Cells s ⟧ (emp 𝓤)) (upd 𝓤 (ex 𝓤 (Whole (λ n. n) (sights_owned R γs i) s)))
+    looks_by : (s : ℕ → S R) → ent 𝓤 (sep 𝓤 ⟦ Cells s ⟧ (emp 𝓤)) (upd 𝓤 (ex 𝓤 (Whole (λ n. n) (Shown γs i) s)))
     looks_by s = qed 𝓛 (‵ (Cells s) ∷ raw (emp 𝓤) ∷ []) ∵ keep ! (0 ∷ []) $ by ! (looks_run (number s) γs i at s (λ j low high. number_is s j (reaches γs i at j low high)))
 
   module _ (b o : ℕ) where
@@ -215,8 +227,8 @@ module _ {M : Type 1} {𝓤 : Ura M} (𝓛 : Logic 𝓤) (R : RattleType) (Γs :
     begins_all γs i at plain short sought new none sum q = stepped_all q (Swaps sought new) (λ n. if_won (eqb n sought) (held R false t c e γs i [])) (emp 𝓤) (wins γs i at plain sought new short none sum)
 
     pub looks_all : (γs : List Names) (i : ℕ) → AreAt γs i Γs → (q : Share)
-        → ent 𝓤 (sep 𝓤 ⟦ Opened ⟧ (sep 𝓤 (A.lft α q) (emp 𝓤))) (asks 𝓛 (block_ptr b o) (λ n. n) always (λ n. fsep (flft α q) (sights_owned R γs i n)))
-    looks_all γs i at q = stepped_all q (λ n. n) (sights_owned R γs i) (emp 𝓤) (looks_by γs i at)
+        → ent 𝓤 (sep 𝓤 ⟦ Opened ⟧ (sep 𝓤 (A.lft α q) (emp 𝓤))) (asks 𝓛 (block_ptr b o) (λ n. n) always (λ n. fsep (flft α q) (Shown γs i n)))
+    looks_all γs i at q = stepped_all q (λ n. n) (Shown γs i) (emp 𝓤) (looks_by γs i at)
 
     pub publishes_all : (γs : List Names) (i : ℕ) → AreAt γs i Γs → ArePlain γs → length Γs ≤ 16 → (xs : List R.Denot) → length xs ≡ length γs → (k : ℕ) → k ≡ sums 2 (length γs) i → (q : Share)
         → ent 𝓤 (sep 𝓤 ⟦ Opened ⟧ (sep 𝓤 (A.lft α q) ⟦ held R false t c e γs i xs ⟧)) (asks 𝓛 (block_ptr b o) (λ n. (n + k) % 2 ^ 64) always (λ _. fsep (flft α q) (all_written R γs xs)))

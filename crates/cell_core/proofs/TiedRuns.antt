@@ -7,12 +7,13 @@ use types.Logic.{Logic, sem}
 use types.Kit.{‵, raw, ◌⊛◌, some, given, ◌$◌, ◌∵◌, !, qed, move, drop, use2, use3, split, join, check, fsplit, fsplit3, fjoin, fpick, pick, learn, show, suffices, rewrite, settle, done}
 use denote.RattleType.{RattleType}
 use denote.Steps.{nothing}
-use Rattle.tie_core.specs.Tie.{Tie, Stage, Idle, Begun, Mending, Filled, Broken, Made, Shows, IsHeld, begins, fills, floor_of, update}
+use Rattle.tie_core.specs.Tie.{Tie, Stage, Idle, Begun, Filled, Made, Shows, begins, fills, floor_of, update}
 use Rattle.tie_core.specs.Run.{run_floor, updates}
 use Rattle.cell_core.specs.Fields.{put, sums}
 use Rattle.cell_core.specs.Slot.{Names, Turn, free, begun, busy, full, broken, broken_by_owner, state, cell_in, floors, room_at, over, setting, written, FirstRight}
 use Rattle.cell_core.specs.Run.{AreAt, AreTiedTo, held, all_written}
 use Rattle.cell_core.proofs.WordSteps.{S, Law, Row, lifts, floor_within}
+use Rattle.cell_core.proofs.CellSteps.{held_at_zero}
 use Rattle.cell_core.proofs.CellSteps as steps
 use Rattle.cell_core.proofs.RunSteps as runs
 
@@ -21,14 +22,6 @@ pub run_within : (γs : List Names) (i : ℕ) (Γs : List Names) (ts : List Tie)
 run_within [] i Γs ts at tied near = absurd (omega (arith, near))
 run_within (γ ∷ γs) i Γs [] at tied near = absurd tied
 run_within (γ ∷ γs) i Γs (t ∷ ts) at tied near = let within = floor_within Γs i at.0 in let same : floor_of (cell_in Γs i).tied ≡ t.floor = ap (λ (n : Names). floor_of n.tied) at.1 ∙ ap floor_of tied.0 in let low : t.floor ≤ floors Γs = omega (arith, within, same) in low
-
--- a cell that one call has, and whose state is that of an empty one, is begun
-held_at_zero : (s : Stage) → Shows s 0 → IsHeld s → s ≡ Begun
-held_at_zero Idle shows is = absurd is
-held_at_zero Begun shows is = refl
-held_at_zero Mending shows is = absurd (let z : 0 ≡ 1 = shows in omega (arith, z))
-held_at_zero Filled shows is = absurd is
-held_at_zero Broken shows is = absurd is
 
 -- a number that is no state
 no_state : (R : RattleType) (y : S R) (n : ℕ) → state y ≡ n → 3 < n → n ≢ 5 → n ≢ 9 → ⊥

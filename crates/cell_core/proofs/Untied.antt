@@ -17,20 +17,32 @@ use denote.Steps.{nothing}
 use denote.Param.{param}
 use denote.Param.Laws.{Laws}
 use Rattle.cell_core.specs.Fields.{pack}
-use Rattle.cell_core.specs.Slot.{Names, Phase, Rest, IsPlain, cell_in, free, begun, busy, full, broken, broken_by_owner, state, mark, place, told, word, step}
+use Rattle.cell_core.specs.Slot.{Names, Phase, Rest, IsPlain, HasNoSeat, ArePlain, cell_in, free, begun, busy, full, broken, broken_by_owner, state, mark, place, told, word, step}
 use Rattle.cell_core.specs.Slot.{Lies as Fills}
 use Rattle.cell_core.specs.Laid.{AreOfKind, Extent, Lies, words_ty, rooms_ty, lying, rests, still, along, laid}
 use Rattle.cell_core.specs.Member.{MemberView, HasNames, KnowsCells, IsUntied, AreUntied, known_as, members}
+use Rattle.cell_core.specs.Fixed.{untied_cell}
+use Rattle.tie_core.specs.Tie.{Tie, Begun, IsTied, seat_at}
+use Rattle.cell_core.proofs.Stages.{AgreesAt, seat_told}
 use Rattle.cell_core.proofs.Fields.{pack_ap, pack_alike}
 use Rattle.cell_core.proofs.MemberParts.{known_twice}
 use Rattle.cell_core.proofs.RestParts.{emptied}
 
--- the same cell without its tie
-abbrev untied : Names → Names
-untied γ = record γ { tied = None }
+-- one that was not tied stays as it is
+untied_plain : (γ : Names) → IsPlain γ → untied_cell γ ≡ γ
+untied_plain γ plain = λ i. record { value_name = γ.value_name; broken_name = γ.broken_name; epoch = γ.epoch; tied = sym plain i }
 
-untied_is : (γ : Names) → IsUntied γ (untied γ)
-untied_is γ = record { plain = refl; broken = refl; epoch = refl }
+-- the same cell without its tie
+untied_is : (γ : Names) → IsUntied γ (untied_cell γ)
+untied_is γ = record { plain = refl; broken = refl; epoch = refl; kept = untied_plain γ; same = λ s is other. refl }
+
+plain_not_tied : (τ : Option Tie) → τ ≡ None → IsTied τ → ⊥
+plain_not_tied None none tied = tied
+plain_not_tied (Some t) none tied = absurd (let z = none in cc)
+
+-- a begun cell gets another name for its value
+untied_begun : (γ : Names) (n : ℕ) → IsTied γ.tied → AgreesAt γ.tied Begun → IsUntied γ (record { value_name = n; broken_name = γ.broken_name; epoch = γ.epoch; tied = None })
+untied_begun γ n tied at = record { plain = refl; broken = refl; epoch = refl; kept = λ plain. absurd (plain_not_tied γ.tied plain tied); same = λ s is other. absurd (other (sym (at s is))) }
 
 names_kept : {X : Type 0} (γ γ' : Names) → γ'.value_name ≡ γ.value_name → γ'.epoch ≡ γ.epoch → (v : Option X) (name : ℕ) (epoch : Lft) → HasNames γ v name epoch → HasNames γ' v name epoch
 names_kept γ γ' same also (Some x) name epoch is = is ∙ sym same
@@ -121,6 +133,12 @@ plain_in (γ ∷ γs) [] are i = absurd are
 plain_in (γ ∷ γs) (a ∷ us) are zero = are.0.plain
 plain_in (γ ∷ γs) (a ∷ us) are (suc i) = plain_in γs us are.1 i
 
+pub are_plain : (γs us : List Names) → AreUntied γs us → ArePlain us
+are_plain [] [] are = tt
+are_plain [] (a ∷ us) are = absurd are
+are_plain (γ ∷ γs) [] are = absurd are
+are_plain (γ ∷ γs) (a ∷ us) are = (are.0.plain, are_plain γs us are.1)
+
 pub untied_kind : (tied : Bool) (γs us : List Names) → AreUntied γs us → AreOfKind tied us
 untied_kind tied γs us are = record { plain = λ _. plain_in γs us are }
 
@@ -176,8 +194,8 @@ module _ (T : RattleType) (L : Laws T) {M : Type 1} {𝓤 : Ura M} (𝓛 : Logic
   One γ u c e o y = guard 𝓤 (IsUntied γ y.0 × Keeps o y.0 × (state y.1.1 ≡ state u.1)) ⟦ lying R c e y.0 y.1 ⟧
 
   -- a cell whose phase needs no tie keeps its names
-  stays : (γ : Names) (v : Option R.Denot) (s : Phase R.Denot) (c e : ℕ) (o : Option View) → Keeps o γ → (⟦ told R γ s ⟧ ⊢ ⟦ told R (untied γ) s ⟧) → ⟦ lying R c e γ (v, s) ⟧ ∗ ⟦ Says o ⟧ ⊢ H.⇛ (ex 𝓤 (One γ (v, s) c e o))
-  stays γ v s c e o known same = let γ' : Names = untied γ in
+  stays : (γ : Names) (v : Option R.Denot) (s : Phase R.Denot) (c e : ℕ) (o : Option View) → Keeps o γ → (⟦ told R γ s ⟧ ⊢ ⟦ told R (untied_cell γ) s ⟧) → ⟦ lying R c e γ (v, s) ⟧ ∗ ⟦ Says o ⟧ ⊢ H.⇛ (ex 𝓤 (One γ (v, s) c e o))
+  stays γ v s c e o known same = let γ' : Names = untied_cell γ in
       qed 𝓛 (‵ (lying R c e γ (v, s)) ∷ ‵ (Says o) ∷ []) ∵ updating ! $ keep ! (0 ∷ []) $ fsplit ! $ move ! (1 ∷ []) $ fsplit ! $ fsplit ! $ move ! (1 ∷ []) $ fsplit ! $
       -- [what goes with the phase; the seat; the names; that it lies there; the room]
       use1 𝓛 (‵ (told R γ' s)) same $ keep ! (0 ∷ 2 ∷ 3 ∷ 4 ∷ []) $ nothing ! $ move ! (1 ∷ 0 ∷ []) $ fjoin ! $ move ! (1 ∷ 0 ∷ []) $ fjoin ! $ fjoin ! $ move ! (1 ∷ 0 ∷ []) $ fjoin ! $ now ! $
@@ -188,11 +206,13 @@ module _ (T : RattleType) (L : Laws T) {M : Type 1} {𝓤 : Ura M} (𝓛 : Logic
   renamed γ v c e o known =
       qed 𝓛 (‵ (lying R c e γ (v, begun)) ∷ []) ∵ updating ! $ fsplit ! $ use1 𝓛 (‵ (place R None c e)) (emptied T L 𝓛 c e v) $ move ! (1 ∷ []) $ fsplit ! $ fsplit ! $ move ! (1 ∷ []) $ fsplit ! $ fsplit ! $
       -- [the epoch has ended; that it is tied; the seat; the names; that it lies there; the room]
-      move ! (3 ∷ []) $ fsplit ! $ keep ! (1 ∷ 2 ∷ 6 ∷ []) $ name_new ! tt gnil (λ γv. let γ' : Names = record { value_name = γv; broken_name = γ.broken_name; epoch = γ.epoch; tied = None } in now ! $
+      move ! (2 ∷ []) $ use1 𝓛 (given (AgreesAt γ.tied Begun) (‵ (seat_at γ.tied Begun))) (seat_told 𝓛 γ.tied Begun) $ learn ! (λ at. move ! (2 ∷ []) $ fpick ! (λ tied. toss ! $
+      -- [the seat; the epoch has ended; the names; that it lies there; the room]
+      move ! (2 ∷ []) $ fsplit ! $ keep ! (1 ∷ 3 ∷ 5 ∷ []) $ name_new ! tt gnil (λ γv. let γ' : Names = record { value_name = γv; broken_name = γ.broken_name; epoch = γ.epoch; tied = None } in now ! $
       -- [the right to fill; its name; the name of a break; the epoch has ended; the room]
       move ! (1 ∷ 2 ∷ []) $ fjoin ! $ move ! (2 ∷ 1 ∷ []) $ fjoin ! $ nothing ! $ move ! (1 ∷ 0 ∷ []) $ fjoin ! $ move ! (1 ∷ 0 ∷ []) $ fjoin ! $
       nothing ! $ fpack ! (Fills R None free) (λ _. ftrue) refl $ move ! (1 ∷ 0 ∷ []) $ fjoin ! $ move ! (1 ∷ 0 ∷ []) $ fjoin ! $
-      show ! (One γ (v, begun) c e o) (γ', (None, free)) $ check ! (record { plain = refl; broken = refl; epoch = refl }, known γ' refl, refl) $ done !)
+      show ! (One γ (v, begun) c e o) (γ', (None, free)) $ check ! (untied_begun γ γv tied at, known γ' refl, refl) $ done !)))
 
   -- no value is known of a begun cell
   begun_by : (γ : Names) (w : Option R.Denot) (c e : ℕ) (v : Option R.Denot) (name : ℕ) (epoch : Lft) → HasNames γ v name epoch
@@ -214,7 +234,8 @@ module _ (T : RattleType) (L : Laws T) {M : Type 1} {𝓤 : Ura M} (𝓛 : Logic
   one γ (v, busy) c e o known = stays γ v busy c e o known (id⊢ 𝓤 _)
   one γ (v, full x) c e o known = stays γ v (full x) c e o known (id⊢ 𝓤 _)
   one γ (v, broken) c e o known = stays γ v broken c e o known (id⊢ 𝓤 _)
-  one γ (v, broken_by_owner) c e o known = stays γ v broken_by_owner c e o known (id⊢ 𝓤 _)
+  one γ (v, broken_by_owner) c e o known = stays γ v broken_by_owner c e o known (qed 𝓛 (‵ (told R γ broken_by_owner) ∷ []) ∵ fsplit ! $ keep ! (0 ∷ []) $
+      nothing ! $ fpack ! (HasNoSeat None) (λ _. ftrue) tt $ move ! (1 ∷ 0 ∷ []) $ fjoin ! $ done !)
 
   -- cells with the same states
   abbrev Many : List Names → ℕ → ℕ → (ℕ → Rest R.Denot) → List View → ℕ → List Names × (ℕ → Rest R.Denot) → Pr

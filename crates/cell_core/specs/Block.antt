@@ -1,9 +1,10 @@
 -- A block of cells as callers see it, and what is seen of its pens and tokens.
 use Rattle.std.specs.Prelude.{◌≡◌, ◌≢◌, ℕ, ◌+◌, ◌<◌, List, Some, None, length, slice_get}
 use base.Stored.{Coded, coded×, coded_ℕ, coded_list, coded_via}
-use Rattle.cell_core.specs.Slot.{Names, names_coded, cell_in, empty_state, filled_state}
-use Rattle.tie_core.specs.Tie.{Stage}
+use Rattle.cell_core.specs.Slot.{Names, IsPlain, names_coded, cell_in, empty_state, filled_state}
+use Rattle.tie_core.specs.Tie.{Stage, Filled}
 use Rattle.cell_core.specs.Laid.{IsAnother, IsFixedAt}
+use Rattle.cell_core.specs.Fixed.{FixesOne, stage_in}
 use Rattle.cell_core.specs.Member.{MemberView, HasNames}
 
 -- a block: the names of each cell
@@ -124,6 +125,16 @@ abbrev pub AreFilledFrom : {T : Type 0} → BlockView → ℕ → List (MemberVi
 AreFilledFrom {T} block offset row =
     (i : ℕ) (m : MemberView T) → slice_get row i ≡ Some m → IsMemberAt block (offset + i) m × (m.value ≢ None)
 
+-- each of n cells from the offset on that is fixed at a stage is at that of a filled cell
+abbrev pub AreAtFilled : BlockView → ℕ → ℕ → Type 0
+AreAtFilled block offset n =
+    (i : ℕ) (s : Stage) → i < n → stage_in (cell_at block (offset + i)) ≡ Some s → s ≡ Filled
+
+-- the cell after count cells from the offset on is at no stage of a filled one, if these are fewer than n
+abbrev pub IsOtherAfter : BlockView → ℕ → ℕ → ℕ → Type 0
+IsOtherAfter block offset count n =
+    count < n → (s : Stage) → stage_in (cell_at block (offset + count)) ≡ Some s → s ≢ Filled
+
 -- the cell at the offset has fresh names: no older token applies to it
 abbrev pub RenewsCell : BlockView → BlockView → ℕ → Type 0
 RenewsCell old new offset = IsAnother (cell_at old offset) (cell_at new offset)
@@ -131,6 +142,14 @@ RenewsCell old new offset = IsAnother (cell_at old offset) (cell_at new offset)
 -- the cell at the offset keeps its tie, fixed at a stage: it has no seat, and its stage is known
 abbrev pub FixesTie : BlockView → BlockView → ℕ → Stage → Type 0
 FixesTie old new offset s = IsFixedAt old.cells offset new.cells s
+
+-- the same, and the cell keeps its names, and each other cell stays as it is
+abbrev pub FixesCell : BlockView → BlockView → ℕ → Stage → Type 0
+FixesCell old new offset s = FixesOne old.cells offset new.cells s
+
+-- the cell at the offset is not tied if it was not
+abbrev pub StaysPlain : BlockView → BlockView → ℕ → Type 0
+StaysPlain old new offset = IsPlain (cell_at old offset) → IsPlain (cell_at new offset)
 
 -- each cell but the one at the offset keeps its names
 abbrev pub KeepsOtherCells : BlockView → BlockView → ℕ → Type 0

@@ -1,5 +1,6 @@
 pub mod Slot
 pub mod Laid
+pub mod Fixed
 pub mod Member
 pub mod Block
 pub mod Shown

@@ -1,11 +1,13 @@
 -- What is known of a cell, and of each cell of a row.
-use Rattle.std.specs.Prelude.{◌≡◌, ℕ, suc, ◌+◌, ◌<◌, Option, Some, None, List, [], ◌∷◌, ◌++◌, length, slice_get, slice_set}
+use Rattle.std.specs.Prelude.{◌≡◌, ◌≢◌, ℕ, suc, ◌+◌, ◌<◌, Option, Some, None, List, [], ◌∷◌, ◌++◌, length, slice_get, slice_set}
 use Rattle.std.specs.Coded.{coded_option}
 use base.Stored.{Gv, Coded, gnil, gcons, gnum, coded×, coded_ℕ, coded_list, coded_via}
 use base.Fml.{Lft, GName, Fml, ftrue, fsep, fex, fauth, finv}
 use denote.RattleType.{RattleType}
 use Rattle.cell_core.specs.Slot.{Names, IsPlain, cell_in, fact, written, filled_state, owner_broken_state}
 use Rattle.cell_core.specs.Laid.{IsAnother}
+use Rattle.cell_core.specs.Fixed.{stage_in, untied_cell}
+use Rattle.tie_core.specs.Tie.{Stage, Begun}
 
 -- what is known of a cell: the value that it always keeps and the value's name; or otherwise the epoch in
 -- which it stays broken, and that the name never gets a value
@@ -77,11 +79,14 @@ KnowsCells {T} ms j γs =
     (i : ℕ) (m : MemberView T) → i < length γs → slice_get ms (j + i) ≡ Some m
     → HasNames (cell_in γs i) m.value m.name m.epoch
 
--- the same cell without its tie; if it has no value, the name of its value may be another one
+-- The same cell without its tie. The name of its value may be another one, but only if the cell may be begun: not if it
+-- was not tied, or was fixed at another stage
 pub record IsUntied (old new : Names) : Type 0 where
   pub plain : IsPlain new
   pub broken : new.broken_name ≡ old.broken_name
   pub epoch : new.epoch ≡ old.epoch
+  pub kept : IsPlain old → new ≡ old
+  pub same : (s : Stage) → stage_in old ≡ Some s → s ≢ Begun → new ≡ untied_cell old
 
 -- the same of each of some cells
 abbrev pub AreUntied : List Names → List Names → Type 0

@@ -14,6 +14,20 @@ IsFoundIn block offset (found.Busy begun) = IsBegunAt block offset begun
 IsFoundIn block offset (found.Filled placed) = IsPlacedAt block offset placed
 IsFoundIn block offset (found.Broken spoilt) = IsSpoiltAt block offset spoilt
 
+-- the state that a call found is that of what it returned
+abbrev pub IsFoundOf : {T : Type 0} → ℕ → Found T → Type 0
+IsFoundOf n found.Empty = n ≡ empty_state
+IsFoundOf n (found.Busy begun) = n ≡ busy_state
+IsFoundOf n (found.Filled placed) = n ≡ filled_state
+IsFoundOf n (found.Broken spoilt) = (busy_state < n) × (n ≢ filled_state)
+
+-- the call found the cell not broken
+abbrev pub IsNotBroken : {T : Type 0} → Found T → Type 0
+IsNotBroken found.Empty = Unit {0}
+IsNotBroken (found.Busy begun) = Unit {0}
+IsNotBroken (found.Filled placed) = Unit {0}
+IsNotBroken (found.Broken spoilt) = ⊥
+
 -- the call found a value, and it is this one
 abbrev pub ShowsFilled : {T : Type 0} → T → Found T → Type 0
 ShowsFilled x found.Empty = ⊥

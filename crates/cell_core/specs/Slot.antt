@@ -3,7 +3,7 @@
 -- tracks what the cell's room holds. One invariant holds the word, and of each cell the right to write or the shared
 -- value. A cell has an epoch too, a lifetime. It has ended for all cells but those that an owner broke: such a cell
 -- stays broken as long as its epoch lasts.
-use Rattle.std.specs.Prelude.{◌≡◌, ℕ, zero, suc, ◌+◌, ◌<◌, ◌≤◌, Bool, true, false, eqb, Option, Some, None, List, [], ◌∷◌, length, get_or}
+use Rattle.std.specs.Prelude.{◌≡◌, ◌≢◌, ℕ, zero, suc, ◌+◌, ◌<◌, ◌≤◌, Bool, true, false, eqb, Option, Some, None, List, [], ◌∷◌, length, get_or}
 use Rattle.std.specs.Coded.{coded_option}
 use mir.Syntax.{w64, ty_int}
 use mir.Raw.{raw}
@@ -58,6 +58,11 @@ AreTied [] (γ ∷ γs) = ⊥
 AreTied (τ ∷ τs) [] = ⊥
 AreTied (τ ∷ τs) (γ ∷ γs) = (γ.tied ≡ τ) × AreTied τs γs
 
+-- the cell has no seat: it is not tied, or its tie is fixed
+abbrev pub HasNoSeat : Option Tie → Type 0
+HasNoSeat None = Unit {0}
+HasNoSeat (Some t) = t.fixed ≢ None
+
 -- a number above those of the invariants that some cells are tied to
 abbrev pub floors : List Names → ℕ
 floors [] = 0
@@ -89,6 +94,10 @@ broken_state = 5
 abbrev pub owner_broken_state : ℕ
 owner_broken_state = 9
 
+-- if the state is that of a cell that an owner broke, the cell has no seat
+abbrev pub ShowsOwner : Option Tie → ℕ → Type 0
+ShowsOwner τ n = busy_state < n → n ≢ filled_state → n ≢ broken_state → HasNoSeat τ
+
 -- what makes a cell filled, and broken, that its writer has: by whether it is begun and not busy
 abbrev pub fill_added : Bool → ℕ
 fill_added true = 3
@@ -97,6 +106,15 @@ fill_added false = 2
 abbrev pub break_added : Bool → ℕ
 break_added true = 5
 break_added false = 4
+
+-- the state of a cell that its writer has, and how far the cell is: by whether it is begun and not busy
+abbrev pub writer_state : Bool → ℕ
+writer_state true = empty_state
+writer_state false = busy_state
+
+abbrev pub writer_stage : Bool → Stage
+writer_stage true = Begun
+writer_stage false = Mending
 
 -- the state of each phase
 abbrev pub state : {X : Type 0} → Phase X → ℕ
@@ -224,6 +242,10 @@ module _ (R : RattleType) where
     abbrev pub broken_unset : Fml
     broken_unset = fsep (was_broken γ.broken_name) unset
 
+    -- the same of one that an owner broke, which thereby lost its seat
+    abbrev pub broken_seatless : Fml
+    broken_seatless = fsep broken_unset (fact (HasNoSeat γ.tied))
+
     -- what goes with each phase
     abbrev pub told : Phase R.Denot → Fml
     told free = settable
@@ -231,7 +253,7 @@ module _ (R : RattleType) where
     told busy = over
     told (full x) = fsep over (written γ.value_name x)
     told broken = fsep over broken_unset
-    told broken_by_owner = broken_unset
+    told broken_by_owner = broken_seatless
 
     -- the seat, as the phase has it
     abbrev pub seat : Phase R.Denot → Fml

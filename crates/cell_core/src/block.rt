@@ -1,19 +1,22 @@
 //! A block of cells, laid raw in two rows: the values side by side, and words with the states of sixteen cells each.
-ghost use Rattle.std.specs.Prelude.{◌≡◌, ◌≢◌, ◌+◌, ◌/◌, ◌%◌, ◌<◌, [], false, Some, None, IsSomeAnd, IfSome, IfOk, IfErr, IsErrAnd, length};
+ghost use Rattle.std.specs.Prelude.{◌≡◌, ◌≢◌, ◌+◌, ◌/◌, ◌%◌, ◌<◌, ℕ, [], false, Some, None, IsSomeAnd, IfSome, IfOk, IfErr, IsErrAnd, length};
 ghost use Rattle.cell_core.specs.Block.{block_len, cell_at, IsPenAt, IsFresh, IsMending, IsPlacedIn, IsPlacedAt, IsMemberAt};
-ghost use Rattle.cell_core.specs.Slot.{AreTied, IsPlain, empty_state, filled_state};
+ghost use Rattle.cell_core.specs.Slot.{ArePlain, AreTied, IsPlain, empty_state, filled_state};
 ghost use Rattle.cell_core.specs.Laid.{AreOfKind, HasEachRenamed, IsLinked, IsWhole, word_cells};
-ghost use Rattle.cell_core.specs.Shown.{IsFoundIn, IsNotEmpty, ShowsFilled, IsLookAt, IsLookOf};
+ghost use Rattle.cell_core.specs.Run.{cells_from};
+ghost use Rattle.cell_core.specs.Shown.{IsFoundIn, IsFoundOf, IsNotEmpty, ShowsFilled, IsLookAt, IsLookOf};
 
 mod begun;
 mod epoch;
 mod fields;
 mod filled;
+mod fixed;
 mod kind;
 mod member;
 mod owner;
 mod pen;
 mod placed;
+mod plain;
 mod run;
 mod shown;
 mod slice;
@@ -22,10 +25,10 @@ mod steps;
 mod tied;
 mod tied_run;
 
-use crate::slot::steps::{BROKEN, BROKEN_BY_OWNER, BUSY, EMPTY, FILLED, RawPen, RawSight, RawSlot};
+use crate::slot::steps::{BUSY, EMPTY, FILLED, RawPen, RawSight, RawSlot};
 pub use begun::Begun;
 pub use epoch::{EndedEpoch, Epoch};
-use fields::{WORD_CELLS, all_but, in_field, state_in, word_of, words_for};
+use fields::{WORD_CELLS, state_in, word_of, words_for};
 pub use kind::{First, Kind, Plain, Tied};
 pub use member::{Member, Row};
 pub use pen::Pen;
@@ -70,23 +73,7 @@ impl<T, A: Allocator> Block<T, A> {
     pub fn new(alloc: A, n: u64) -> Result<Block<T, A>, AllocError>
         ensures { IfOk result (λ block. block_len block ≡ n) }
     {
-        let (rooms, values) = Rooms::reserve(&alloc, n as usize)?;
-        let (words, states) = match Rooms::reserve(&alloc, words_for(n)) {
-            Ok(row) => row,
-            Err(error) => {
-                values.free(&alloc, rooms, n as usize);
-                return Err(error);
-            }
-        };
-        let link = Link::of(words, rooms);
-        let laid = lay(Laid::new(states, values), words, n);
-        Ok(Block {
-            alloc,
-            link,
-            laid,
-            len: n,
-            marker: PhantomData,
-        })
+        Block::new_plain(alloc, n)
     }
 }
 
@@ -110,26 +97,13 @@ impl<T, A: Allocator, B: Kind> Block<T, A, B> {
     {
         self.laid.cell(self.link, word_of(offset), offset as usize)
     }
-}
 
-impl<T, A: Allocator> Block<T, A> {
-    // The same of a block whose cells are not tied.
-    #[tactic(auto, using(crate::proofs::PlainCells::cell_plain))]
-    fn plain_cell(&self, offset: u64) -> RawSlot<'_, T>
-        requires { offset < block_len self.now }
-        ensures { (result.of ≡ cell_at self.now offset) × (result.index ≡ offset % word_cells)
-            × IsPlain result.of }
-    {
-        self.laid.cell(self.link, word_of(offset), offset as usize)
-    }
-}
-
-impl<T, A: Allocator, B: Kind> Block<T, A, B> {
     // What a step that lost a cell found there.
     fn lost(&self, offset: u64, found: u64, pen: RawPen<'_, T>) -> Found<T>
         requires { (offset < block_len self.now) × (pen.of ≡ cell_at self.now offset)
             × (pen.found ≡ found) × (found ≢ pen.sought) }
         ensures found { IsFoundIn self.now offset result }
+        ensures state { IsFoundOf found result }
         ensures not_empty { found ≢ empty_state → IsNotEmpty result }
     {
         match found {
@@ -154,6 +128,17 @@ impl<T, A: Allocator, B: Kind> Block<T, A, B> {
 }
 
 impl<T, A: Allocator> Block<T, A> {
+    // Shows a proof that no cell of a block of this kind is tied. The call does nothing.
+    #[tactic(auto, using(crate::proofs::PlainCells::cell_plain, crate::proofs::PlainCells::plain_from))]
+    #[inline(always)]
+    fn kind_laws(&self)
+        ensures each { (i : ℕ) → IsPlain (cell_at self.now i) }
+        ensures run { (n i : ℕ) → ArePlain (cells_from n i self.now.cells) }
+    {
+        // For the proof: the kind of the cells is a fact of the block's fields.
+        let _len = self.len;
+    }
+
     /// Begins a cell by one step from empty to busy. The pen is the right to fill or break the cell. Calls on the
     /// other cells whose states are in the same word, up to fifteen, may make the processor retry the step.
     #[inline(always)]
@@ -164,41 +149,25 @@ impl<T, A: Allocator> Block<T, A> {
         ensures found { IfErr result (IsFoundIn self.now offset) }
         ensures not_empty { IfErr result IsNotEmpty }
     {
-        let (word, pen) = self.plain_cell(offset).begin(in_field(BUSY, offset));
-        let found = state_in(word, offset);
-        if found == EMPTY {
-            Ok(Pen {
-                offset,
-                pen,
-                marker: PhantomData,
-            })
-        } else {
-            Err(self.lost(offset, found, pen))
-        }
+        self.kind_laws();
+        self.begin_plain(offset)
     }
 
     /// Takes a broken cell by one step from broken to busy. If an owner broke the cell, this returns
     /// `Found::Broken`; `mend_member` mends such a cell.
+    #[inline(always)]
     pub fn mend(&self, offset: u64) -> Result<Pen<'_, T>, Found<T>>
         requires { offset < block_len self.now }
         ensures pen { IfOk result (IsPenAt self.now offset) }
         ensures broken { IfOk result IsMending }
         ensures found { IfErr result (IsFoundIn self.now offset) }
     {
-        let (word, pen) = self.plain_cell(offset).mend(all_but(BROKEN - BUSY, offset));
-        let found = state_in(word, offset);
-        if found == BROKEN {
-            Ok(Pen {
-                offset,
-                pen,
-                marker: PhantomData,
-            })
-        } else {
-            Err(self.lost(offset, found, pen))
-        }
+        self.kind_laws();
+        self.mend_plain(offset)
     }
 
     /// Takes a broken cell like `mend`, also one that an owner broke in an epoch that has ended.
+    #[inline(always)]
     pub fn mend_member(
         &self,
         offset: u64,
@@ -212,28 +181,8 @@ impl<T, A: Allocator> Block<T, A> {
         ensures found { IfErr result (IsFoundIn self.now offset) }
         ensures filled { (x : T) → member.now.value ≡ Some x → IsErrAnd result (ShowsFilled x) }
     {
-        let mask = all_but(BROKEN_BY_OWNER - BUSY, offset);
-        let (word, pen) = self
-            .plain_cell(offset)
-            .reopen(mask, &member.member, &ended.ended);
-        let found = state_in(word, offset);
-        match found {
-            BROKEN_BY_OWNER => Ok(Pen {
-                offset,
-                pen,
-                marker: PhantomData,
-            }),
-            BROKEN => {
-                pen.unused();
-                self.mend(offset)
-            }
-            FILLED => {
-                let written = pen.written();
-                member.member.agrees(&written);
-                Err(Found::Filled(Placed { offset, written }))
-            }
-            _ => Err(self.lost(offset, found, pen)),
-        }
+        self.kind_laws();
+        self.mend_member_plain(offset, member, ended)
     }
 
     /// Looks at what the cell shows now, by one load.
@@ -242,7 +191,19 @@ impl<T, A: Allocator> Block<T, A> {
         requires { offset < block_len self.now }
         ensures { IsLookAt self.now offset result }
     {
-        let (word, sight) = self.plain_cell(offset).look();
+        self.look_alone(offset)
+    }
+}
+
+impl<T, A: Allocator, B: Kind> Block<T, A, B> {
+    /// Looks at what the cell shows now, by one load. The cell may be tied, but the look runs no offer: it leaves the
+    /// seat alone. A tied cell that is begun shows that it is empty.
+    #[inline(always)]
+    pub fn look_alone(&self, offset: u64) -> Look<'_, T>
+        requires { offset < block_len self.now }
+        ensures { IsLookAt self.now offset result }
+    {
+        let (word, sight) = self.cell(offset).sight();
         let found = state_in(word, offset);
         if found == FILLED {
             let written = sight.written();
@@ -252,9 +213,7 @@ impl<T, A: Allocator> Block<T, A> {
             self.look_unfilled(offset, found, sight)
         }
     }
-}
 
-impl<T, A: Allocator, B: Kind> Block<T, A, B> {
     // Looks at a cell that is not filled. It is a function of its own, so that only calls that come here clear the room
     // for the result of `unfilled`.
     #[inline(always)]
@@ -381,6 +340,26 @@ fn drop_values<T: Drop, A: Allocator>(laid: Laid<T, A>, link: Link<T>, len: u64)
         offset += 1;
     }
     laid
+}
+
+// Room for the two rows of `n` cells, by two requests for memory. No cell is laid yet.
+fn reserve_rows<T, A: Allocator>(alloc: &A, n: u64) -> Result<(Link<T>, Laid<T, A>), AllocError>
+    ensures heap { IfOk result (λ (_, laid). laid.heap ≡ alloc.now) }
+    ensures words { IfOk result (λ (link, laid). IsLinked laid.rows.at link.words) }
+    ensures rooms { IfOk result (λ (link, laid). IsLinked laid.rows.rooms link.rooms) }
+    ensures none { IfOk result (λ (_, laid). (laid.cells ≡ []) × (laid.rows.words ≡ 0)) }
+    ensures room { IfOk result
+        (λ (_, laid). (laid.rows.more ≡ (n + 15) / word_cells) × (laid.rows.left ≡ n)) }
+{
+    let (rooms, values) = Rooms::reserve(alloc, n as usize)?;
+    let (words, states) = match Rooms::reserve(alloc, words_for(n)) {
+        Ok(row) => row,
+        Err(error) => {
+            values.free(alloc, rooms, n as usize);
+            return Err(error);
+        }
+    };
+    Ok((Link::of(words, rooms), Laid::new(states, values)))
 }
 
 // The words for `n` cells, all empty and none of them tied.

@@ -66,11 +66,11 @@ belongs {seat} {share} {size} {floor} {number} {table} {desk} {key} {terms} {des
     record {
       same = ap (λ (w : WordView). w.table) same;
       words = omega arith;
-      limit = ap (λ (w : WordView). w.limit) same ∙ sym (ap (λ (t : Terms). t.limit) opened.key_is);
-      base = ap (λ (w : WordView). w.base) same ∙ sym (ap (λ (t : Terms). t.base) opened.key_is);
-      filled = ap (λ (w : WordView). w.filled) same ∙ sym (ap (λ (t : Terms). t.mark.filled) opened.key_is);
+      limit = ap (λ (w : WordView). w.limit) same ∙ sym opened.key_limit;
+      base = ap (λ (w : WordView). w.base) same ∙ sym opened.key_base;
+      filled = ap (λ (w : WordView). w.filled) same ∙ sym opened.key_filled;
       part = omega arith;
-      room = sym (ap (λ (w : WordView). w.limit) word_is) ∙ sym (ap (λ (t : Terms). t.limit) opened.key_is);
+      room = sym (ap (λ (w : WordView). w.limit) word_is) ∙ sym opened.key_limit;
     }
 
 -- a hand of a word has a seat
@@ -89,11 +89,11 @@ pub hand_seat : {number floor : ℕ} {table desk other : TableId} {key terms des
     → 0 < v.shares → IsHandSeat desk_key v
 hand_seat {number} {floor} {table} {desk} {other} {key} {terms} {desk_key} {word} {hand} v opened word_is ours hand_is part =
     let same : (seat_hand floor other v).of ≡ word_view table terms number = ap (λ (h : HandView). h.of) hand_is ∙ (ours ∙ sym word_is) in
-    let key_is : terms ≡ desk_key = sym (opened.desk_terms ∙ opened.key_is) in
+    let key_is = sym opened.desk_terms in
     record {
-      limit = ap (λ (w : WordView). w.limit) same ∙ ap (λ (t : Terms). t.limit) key_is;
-      base = ap (λ (w : WordView). w.base) same ∙ ap (λ (t : Terms). t.base) key_is;
-      filled = ap (λ (w : WordView). w.filled) same ∙ ap (λ (t : Terms). t.mark.filled) key_is;
+      limit = ap (λ (w : WordView). w.limit) same ∙ (sym opened.key_limit ∙ ap (λ (t : Terms). t.limit) key_is);
+      base = ap (λ (w : WordView). w.base) same ∙ (sym opened.key_base ∙ ap (λ (t : Terms). t.base) key_is);
+      filled = ap (λ (w : WordView). w.filled) same ∙ (sym opened.key_filled ∙ ap (λ (t : Terms). t.mark.filled) key_is);
       part = part;
     }
 

@@ -89,7 +89,7 @@ pending_one : (j k : ℕ) → Some (Pending j) ≡ Some (Pending k) → j ≡ k
 pending_one j k is = let e : Pending j ≡ Pending k = same_Some (Pending j) (Pending k) is in cc e
 
 -- a place before an end
-front_get : {X : Type 0} (front back : List X) (place : ℕ) → place < length front → slice_get front place ≡ slice_get (front ++ back) place
+pub front_get : {X : Type 0} (front back : List X) (place : ℕ) → place < length front → slice_get front place ≡ slice_get (front ++ back) place
 front_get [] back place lt = absurd (omega arith)
 front_get (x ∷ front) back zero lt = refl
 front_get (x ∷ front) back (suc place) lt = front_get front back place (omega arith)

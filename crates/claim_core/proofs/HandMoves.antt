@@ -11,6 +11,7 @@ use Rattle.claim_core.specs.declared.seat_view.SeatView.{SeatView}
 use Rattle.claim_core.specs.declared.terms.Terms.{Terms}
 use Rattle.claim_core.specs.Lengths.{runs_end}
 use Rattle.claim_core.specs.History.{Log, claims_in, AddsEvents}
+use Rattle.claim_core.specs.Shares.{all_shares}
 use Rattle.claim_core.specs.SeatView.{IsConsistent}
 use Rattle.claim_core.specs.SeatSteps.{ClaimState, with_views}
 use Rattle.claim_core.specs.Ties.{Ties, Knows, TiedBy}
@@ -19,6 +20,7 @@ use Rattle.claim_core.proofs.Prefixes.{prefix_nil}
 use Rattle.claim_core.proofs.Fits.{at_set_here, stays_by}
 use Rattle.claim_core.proofs.Logged.{cells_after, others_lengths, others_go_on, adds}
 use Rattle.claim_core.proofs.TiedViews.{tie_hand}
+use Rattle.claim_core.proofs.WholeLog.{adds_alone}
 use Rattle.claim_core.proofs.Kept.{settled_in, goes_on_with}
 
 -- what a hand's seat has after a step that claims nothing: it has seen this history, knows these places begun, these
@@ -27,10 +29,12 @@ abbrev pub noted : SeatView → Log → List ℕ → List RowAt → ℕ → Seat
 noted v log begun rows laid =
     record v { one = []; other = []; log = log; one_log = []; other_log = []; begun = begun; rows = rows; laid = laid }
 
--- a step has added these events, and the rule holds with these views and the hand's new one
+-- a step has added these events, and the rule holds with these views and the hand's new one. Beside a whole hand nobody
+-- else adds events
 pub record Noted (terms : Terms) (s : ClaimState) (vs : List SeatView) (id : ℕ) (v : SeatView) (es : Log) (begun : List ℕ) (rows : List RowAt) (laid : ℕ) : Type 0 where
   pub log : Log
   pub adds_events : AddsEvents v.log es log
+  pub alone : v.shares ≡ all_shares → log ≡ v.log ++ es
   pub kept : Kept terms (with_views s (set vs id (noted v log begun rows laid)))
   pub consistent : IsConsistent (noted v log begun rows laid)
 
@@ -71,6 +75,7 @@ module _
       record {
         log = log;
         adds_events = goes_on_with v.log logged.log es (logged.each id v at).log;
+        alone = λ whole. adds_alone terms.limit terms.base size terms.mark.filled kept.lengths kept.list vs fits logged id v at whole es;
         kept = record {
           words = kept.words;
           lengths = kept.lengths;

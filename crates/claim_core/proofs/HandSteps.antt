@@ -13,7 +13,7 @@ use Rattle.claim_core.specs.History.{Log, AddsEvents, claim_event}
 use Rattle.claim_core.specs.Hand.{HandView, KeepsOwn, KeepsCells, KnowsBoth, AddsRun, SeesSize, OwnApart, seen_size}
 use Rattle.claim_core.specs.Lent.{lent_hand, seat_hand}
 use Rattle.claim_core.specs.Seat.{ClaimSeat, hand_view, IsHeld, SeesAsOne}
-use Rattle.claim_core.specs.SeatView.{Seated, SameOwn, Looks, Claims, Remarks, Settles, longer, joined_view, with_own}
+use Rattle.claim_core.specs.SeatView.{Seated, SameOwn, IsConsistent, Looks, Claims, Remarks, Settles, marked, longer, joined_view, with_own}
 use Rattle.claim_core.proofs.Prefixes.{prefix_sum}
 use Rattle.claim_core.proofs.Belongs.{put_back, owned_apart, adds_run}
 
@@ -146,6 +146,44 @@ pub stays_seen : {seat : ClaimSeat} (new : ClaimSeat) {share size : ℕ} {es : L
     → size ≡ runs_end new.me.0.base new.me.0.seen
 stays_seen {seat} new {share} {size} {es} held remarks =
     held.seen ∙ (ap (λ (b : ℕ). runs_end b seat.me.0.seen) (sym remarks.same.base) ∙ ap (runs_end new.me.0.base) (sym remarks.seen))
+
+-- ---- A step that marks a seat again
+
+-- such a seat is as consistent as it was, and has the same two numbers
+pub marked_held : {seat : ClaimSeat} (new : ClaimSeat) {share size : ℕ} (numbers : List ℕ) (more found : ℕ) → IsHeld seat share size
+    → new.me.0 ≡ marked numbers seat.me.0 → new.me.1 ≡ seat.me.1 → more ≡ share → found ≡ size → IsHeld new more found
+marked_held {seat} new {share} {size} numbers more found held is slots same_share same_size =
+    let positive = held.positive in
+    let c = held.consistent in
+    let still : IsConsistent (marked numbers seat.me.0) =
+    record {
+      positive = c.positive;
+      within = c.within;
+      shares = c.shares;
+      own = c.own;
+      whole = c.whole;
+      history = c.history;
+      lengths = c.lengths;
+      whole_log = c.whole_log;
+      begun = c.begun;
+    } in
+    record {
+      no_slot = slots ∙ held.no_slot;
+      shares = same_share ∙ (held.shares ∙ sym (ap (λ (v : SeatView). v.shares) is));
+      seen = same_size ∙ (held.seen ∙ sym (ap (λ (v : SeatView). runs_end v.base v.seen) is));
+      positive = omega arith;
+      consistent = subst IsConsistent (sym is) still;
+    }
+
+-- its hand has the mark, and is otherwise what it was
+pub marks_on : (seat new : ClaimSeat) {old lent hand : HandView} (numbers : List ℕ) → hand_view old.of.floor seat ≡ old
+    → lent ≡ lent_hand old → hand ≡ hand_view lent.of.floor new → new.table_id ≡ seat.table_id → new.me.0 ≡ marked numbers seat.me.0
+    → hand ≡ record old { of = record old.of { mark = numbers } }
+marks_on seat new {old} {lent} {hand} numbers old_is lent_is hand_is table is =
+    put_back new old lent_is hand_is
+    ∙ (ap (λ (z : TableId). seat_hand old.of.floor z new.me.0) table
+    ∙ (ap (λ (v : SeatView). seat_hand old.of.floor seat.table_id v) is
+    ∙ ap (λ (h : HandView). record h { of = record h.of { mark = numbers } }) old_is))
 
 -- ---- A seat that is cut in two
 

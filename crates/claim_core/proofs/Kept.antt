@@ -21,13 +21,14 @@ use Rattle.claim_core.specs.declared.role.Role.TheVariants.{Hand}
 use Rattle.claim_core.specs.History.{Log, first_list, lengths_of, IsHistoryOf, IsNote, AddsEvents, claim_event, raise_event, enough_event, memory_event, size_note}
 use Rattle.claim_core.specs.Ties.{Ties, no_ties, Knows, TiedBy}
 use Rattle.claim_core.specs.Rule.{Suits, Fits, Recalls, Logged, Kept, word_count, size_at}
-use Rattle.claim_core.specs.SeatView.{Seated, SameOwn, IsConsistent, Looks, Claims, loaded, loaded_as, lacked, settled, exchanged_as, raised, longer, joined_view, first_view, spent_view, with_own}
+use Rattle.claim_core.specs.SeatView.{Seated, SameOwn, IsConsistent, Looks, Claims, marked, loaded, loaded_as, lacked, marked_as, settled, exchanged_as, raised, longer, joined_view, first_view, spent_view, with_own}
 use Rattle.std.proofs.lemmas.List.{append-nil}
 use Rattle.claim_core.proofs.Prefixes.{prefix_self, prefix_append, prefix_nil, prefix_trans, prefix_length, longer_begins}
-use Rattle.claim_core.proofs.Fits.{begins, at_set_here, consistent, stays, grows, splits, joins}
+use Rattle.claim_core.proofs.Fits.{begins, at_set_here, consistent, stays, stays_by, grows, splits, joins}
 use Rattle.claim_core.proofs.LegalNotes.{size_is_note, memory_note, memory_is_note}
 use Rattle.claim_core.proofs.Counts.{times-from_Contains, Contains-from_times}
 use Rattle.claim_core.proofs.TiedViews.{tie_hand}
+use Rattle.claim_core.proofs.WholeLog.{adds_alone}
 use Rattle.claim_core.proofs.TiedWord.{ties_begin, knows_less, tie_claim, tie_cut, tie_join}
 use Rattle.claim_core.proofs.Logged.{cells_after, lengths_of-append, lengths_with, notes_go_on, note_lengths, is_enough, claims_next, claim_legal, raise_legal, logs_nothing, story, tells_all, adds, recalls_still, keeps_log, cuts_log, joins_log}
 
@@ -224,12 +225,28 @@ module _ (terms : Terms) (slots id : ℕ) (me : Seated) (is_limit : me.0.limit �
           record {
             seen = refl;
             log = goes_on_with v.log logged.log es recalls.log;
+            alone = λ whole. adds_alone terms.limit terms.base (get_or s.words size_at 0) terms.mark.filled all kept.list s.views fits logged id v at whole es;
             same = same;
             consistent = settled_in terms (get_or s.words size_at 0) all kept.list kept.ties (set s.views id w) fits' logged' tied' id w (at_set_here s.views id v w at) is_limit is_base is_filled;
           },
           refl,
         ),
       )
+
+  -- one that sets the numbers of the mark: the rule says nothing about them
+  pub marks : (numbers : List ℕ) → Allows (Kept terms) slots id me size_at (λ n. n) (marked_as numbers (step slots size_at 0 0 none) me)
+  marks numbers s kept homes at small =
+      let v = me.0 in
+      let all = kept.lengths in
+      let mine = kept.fits.each id v at in
+      let recalls = kept.logged.each id v at in
+      let w : SeatView = marked numbers v in
+      let suits : Suits all w = record { seen = mine.seen; one = mine.one; other = mine.other; own = mine.own; spent = mine.spent } in
+      let fits' = stays_by terms.limit terms.base (get_or s.words size_at 0) all s.views kept.fits id v at w refl refl suits in
+      let still : Recalls kept.logged.log w = record { log = recalls.log; one = recalls.one; other = recalls.other; lengths = recalls.lengths } in
+      let logged' = keeps_log terms.limit terms.base terms.mark.filled all kept.list s.views kept.logged id v at w refl (λ more. more) still in
+      let tied' = still_knows s kept at w refl refl (prefix_self v.seen) refl refl refl in
+      (w, keeps, tt, placed terms s kept (get_or s.words size_at 0) id me w all kept.list fits' logged' tied', (refl, refl))
 
   -- the event of a claim of n places
   abbrev claiming : ℕ → ℕ → ℕ → Event × Reply

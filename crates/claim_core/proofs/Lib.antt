@@ -11,9 +11,11 @@ mod LegalNotes
 mod Additions
 mod HistoryLaws
 mod FillLaws
+mod PlaceLaws
 mod Kept
 mod TiedRows
 mod TiedEntries
+mod WholeLog
 mod RoleSeats
 mod HandMoves
 mod CellEvents
@@ -25,6 +27,7 @@ mod Belongs
 mod WholeHand
 mod HandSteps
 mod MaySteps
+mod RunSteps
 mod GainsBack
 mod OwnCounts
 mod OwnPlaces

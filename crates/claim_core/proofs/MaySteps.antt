@@ -1,9 +1,11 @@
 -- What the rule permits, as desks ask it: steps on cells and entries by a hand's seat, from what callers see of the hand.
-use Rattle.std.proofs.Common.{◌≡◌, ◌≢◌, ◌⊎◌, ℕ, ◌+◌, ◌<◌, ◌≤◌, List, [], ◌∷◌, None, refl, ap, sym, subst, inl, inr, ⊎_elim, lit<, arith}
+use Rattle.std.proofs.Common.{◌≡◌, ◌≢◌, ◌⊎◌, ℕ, ◌+◌, ◌<◌, ◌≤◌, List, [], ◌∷◌, ◌++◌, set, None, refl, ap, sym, ◌∙◌, subst, inl, inr, ⊎_elim, lit<, arith}
 use Rattle.std.proofs.lemmas.Bool.{cases_eq}
+use Rattle.std.proofs.lemmas.List.{append-nil}
 use Rattle.std.specs.List.{Contains}
 use mathlib.Core.Logic.{dite}
 use native.Mathlib.Decide.{dec_le}
+use Rattle.atomic_table.proofs.Lists.{set_again}
 use Rattle.atomic_table.specs.Seated.{TableId}
 use Rattle.book_core.specs.declared.events.Event.{Event}
 use Rattle.book_core.specs.declared.events.Reply.{Reply}
@@ -15,21 +17,22 @@ use Rattle.claim_core.specs.declared.role.RowAt.{RowAt}
 use Rattle.claim_core.specs.declared.seat_view.SeatView.{SeatView}
 use Rattle.claim_core.specs.declared.terms.Terms.{Terms}
 use Rattle.claim_core.specs.Lengths.{InRun, runs_end}
-use Rattle.claim_core.specs.History.{fill_event, break_event}
+use Rattle.claim_core.specs.History.{Log, fill_event, break_event}
 use Rattle.claim_core.specs.Shares.{all_shares}
 use Rattle.claim_core.specs.Hand.{HandView, OwnsPlace, seen_size}
 use Rattle.claim_core.specs.Lent.{seat_hand}
-use Rattle.claim_core.specs.Gain.{an_event, a_begin, a_row, HasSeenPlace}
-use Rattle.claim_core.specs.Plays.{cell_stage, stage_view, empty_view, placed_view, block_view, look_gains, begin_gains, fill_gains, spoil_gains, mend_gains, fill_mended_gains, spoil_mended_gains, found_gain, set_gain, told_by, told_of, entered, Learns, MayStep}
+use Rattle.claim_core.specs.Gain.{no_gain, an_event, a_begin, a_row, HasSeenPlace}
+use Rattle.claim_core.specs.Plays.{cell_stage, stage_view, empty_view, placed_view, block_view, look_gains, begin_gains, fill_gains, spoil_gains, mend_gains, fill_mended_gains, spoil_mended_gains, read_gains, found_gain, scout_gain, set_gain, told_by, told_of, unseen, entered, Learns, MayStep}
 use Rattle.claim_core.specs.SeatView.{spent_view, Remarks}
-use Rattle.claim_core.specs.SeatSteps.{writer_of, try_event, IsHeldAt, SeesPlace, Begins, LearnsRow}
+use Rattle.claim_core.specs.SeatSteps.{with_views, writer_of, try_event, IsHeldAt, SeesPlace, Begins, LearnsRow, IsStill}
 use Rattle.claim_core.specs.Ties.{Finds}
 use Rattle.claim_core.specs.Rule.{Kept}
 use Rattle.claim_core.specs.StepLaws.{IsHandSeat}
 use Rattle.claim_core.proofs.Tiles.{find_run}
 use Rattle.claim_core.proofs.CellEvents.{begun_is_busy, mending_is_busy, filled_is_busy, broken_is_busy}
 use Rattle.claim_core.proofs.CellSteps.{not_begun}
-use Rattle.claim_core.proofs.Permits.{permits_laying, permits_look, permits_fill, permits_break, permits_mend, permits_begin, permits_no_entry, permits_row, permits_publish, permits_entry}
+use Rattle.claim_core.proofs.TiedLaws.{whole_leads}
+use Rattle.claim_core.proofs.Permits.{permits_laying, permits_look, permits_fill, permits_break, permits_mend, permits_begin, permits_no_entry, permits_nothing, permits_row, still, permits_still, permits_publish, permits_unseen, permits_entry}
 
 -- ---- Stages
 
@@ -60,17 +63,24 @@ broken_is Broken e = refl
 
 -- ---- What a seat learns
 
-pub event_learned : {v w : SeatView} {e : Event × Reply} → Remarks v (e ∷ []) w → Learns v (an_event e) w
-event_learned {v} {w} {e} remarks =
+remarks_learned : {v w : SeatView} {es : Log} → Remarks v es w → Learns v (record { events = es; begun = []; rows = [] }) w
+remarks_learned {v} {w} {es} remarks =
     let same = remarks.same in
     record {
       seen = remarks.seen;
       log = remarks.log;
+      alone = remarks.alone;
       begun = same.begun;
       rows = same.rows;
       same = record { limit = same.limit; base = same.base; mark = same.mark; filled = same.filled; mine = same.mine; shares = same.shares; begun = refl; rows = refl; laid = same.laid };
       consistent = remarks.consistent;
     }
+
+event_learned : {v w : SeatView} {e : Event × Reply} → Remarks v (e ∷ []) w → Learns v (an_event e) w
+event_learned remarks = remarks_learned remarks
+
+nothing_learned : {v w : SeatView} → Remarks v [] w → Learns v no_gain w
+nothing_learned remarks = remarks_learned remarks
 
 begin_learned : {v w : SeatView} {place : ℕ} → Begins v place w → Learns v (a_begin place) w
 begin_learned {v} {w} {place} begun =
@@ -78,6 +88,7 @@ begin_learned {v} {w} {place} begun =
     record {
       seen = begun.seen;
       log = begun.log;
+      alone = λ whole. begun.alone whole ∙ sym (append-nil v.log);
       begun = begun.begun;
       rows = same.rows;
       same = record { limit = same.limit; base = same.base; mark = same.mark; filled = same.filled; mine = same.mine; shares = same.shares; begun = refl; rows = refl; laid = same.laid };
@@ -90,10 +101,24 @@ row_learned {v} {w} {row} learns =
     record {
       seen = learns.seen;
       log = learns.log;
+      alone = λ whole. learns.alone whole ∙ sym (append-nil v.log);
       begun = same.begun;
       rows = learns.rows;
       same = record { limit = same.limit; base = same.base; mark = same.mark; filled = same.filled; mine = same.mine; shares = same.shares; begun = refl; rows = refl; laid = same.laid };
       consistent = learns.consistent;
+    }
+
+-- a seat that is what it was has gained nothing
+still_learned : {v : SeatView} → IsStill v v → Learns v no_gain v
+still_learned {v} is =
+    record {
+      seen = refl;
+      log = record { since = []; is = sym (append-nil (v.log ++ []) ∙ append-nil v.log) };
+      alone = λ whole. sym (append-nil v.log);
+      begun = refl;
+      rows = refl;
+      same = record { limit = refl; base = refl; mark = refl; filled = refl; mine = refl; shares = refl; begun = refl; rows = refl; laid = refl };
+      consistent = is.consistent;
     }
 
 -- ---- Steps on cells
@@ -110,6 +135,20 @@ module _ (hand : HandView) (place k : ℕ) (found : Finds hand.rows place k) whe
   -- the seat knows the row
   finds : (floor : ℕ) (table : TableId) (v : SeatView) → seat_hand floor table v ≡ hand → Finds v.rows place k
   finds floor table v is = subst (λ (rows : List RowAt). Finds rows place k) (sym (ap (λ (h : HandView). h.rows) is)) found
+
+  -- a read moves no seat
+  pub may_read : hand.shares ≡ all_shares → MayStep looks (told_by read_gains place) hand k
+  may_read whole terms id floor table v at is s n a b holds here other cell moves =
+      let all : v.shares ≡ all_shares = subst (λ (h : HandView). h.shares ≡ all_shares) (sym is) whole in
+      let same : set (set s.views id v) k (stage_view b) ≡ s.views =
+      ap (λ (x : Stage). set (set s.views id v) k (stage_view x)) (moves.1)
+      ∙ (ap (λ (vs : List SeatView). set vs k (stage_view a)) (set_again s.views id v here) ∙ set_again s.views k (stage_view a) cell) in
+      let leads = whole_leads terms s holds id v here all at.limit at.base at.filled place k (cell_stage a) (finds floor table v is) cell in (
+        v,
+        subst (λ (vs : List SeatView). Kept terms (with_views s vs)) (sym same) holds,
+        tt,
+        (no_gain, (refl, all, leads), still_learned (still terms id v at.limit at.base at.filled at.part s holds here)),
+      )
 
   module _ (seen : place < seen_size hand) where
     below : (floor : ℕ) (table : TableId) (v : SeatView) → seat_hand floor table v ≡ hand → SeesPlace v place
@@ -205,6 +244,28 @@ module _ (hand : HandView) (terms : Terms) (id floor : ℕ) (table : TableId) (v
         at_block = λ k s holds here other entry.
             let law = permits_row terms id v at.limit at.base at.filled at.part k from n s holds here entry in
             (law.0, law.1, row_learned law.2);
+      }
+
+  pub may_scout : (told : ℕ)
+      → PermitsVisit (Kept terms) id v t (empty_view from n) (placed_view from n) (told_of (scout_gain from n) told v)
+  may_scout told =
+      record {
+        at_none = λ s holds here other entry.
+            let law = permits_nothing terms id v at.limit at.base at.filled at.part t.own from n s holds here entry in
+            (law.0, law.1, nothing_learned law.2);
+        at_block = λ k s holds here other entry.
+            let law = permits_row terms id v at.limit at.base at.filled at.part k from n s holds here entry in
+            (law.0, law.1, row_learned law.2);
+      }
+
+  pub may_publish_unseen : (told first j : ℕ) → hand.of.base ≤ from
+      → PermitsPublish (Kept terms) id v t (empty_view from n) spent_view (placed_view from n) j (block_view first n) (unseen told v)
+  may_publish_unseen told first j past =
+      let base : v.base ≤ from = subst (λ (h : HandView). h.of.base ≤ from) (sym is) past in
+      record {
+        at_none = λ s holds here other apart between entry block.
+            permits_unseen terms id v at.limit at.base at.filled at.part t.own j from first n base s holds here entry block;
+        at_block = λ k s holds here other entry. permits_still terms id v at.limit at.base at.filled at.part s holds here;
       }
 
   pub may_publish : (told first j : ℕ) → hand.of.base ≤ from

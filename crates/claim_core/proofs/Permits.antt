@@ -4,7 +4,8 @@ use Rattle.std.specs.List.{Contains}
 use mathlib.Core.Option.{some}
 use lib.ListN.{get_elem?}
 use Rattle.std.proofs.Math.Seq.{set_comm}
-use Rattle.atomic_table.proofs.Lists.{at_longer, set_else}
+use Rattle.std.proofs.lemmas.List.{append-nil}
+use Rattle.atomic_table.proofs.Lists.{at_longer, set_else, set_again}
 use Rattle.claim_core.specs.declared.role.CellStage.{CellStage}
 use Rattle.claim_core.specs.declared.role.CellStage.TheVariants as stages
 use Rattle.claim_core.specs.declared.role.Role.{Role}
@@ -16,13 +17,14 @@ use Rattle.claim_core.specs.Lengths.{InRun}
 use Rattle.claim_core.specs.History.{Log, fill_event, break_event, mend_event}
 use Rattle.claim_core.specs.Shares.{all_shares}
 use Rattle.claim_core.specs.SeatView.{spent_view, Remarks}
-use Rattle.claim_core.specs.SeatSteps.{ClaimState, with_views, look_event, writer_of, try_event, MovesByLook, MovesByBegin, MovesByTry, MovesByFill, MovesByBreak, MovesByMend, SeesPlace, SeesIn, Begins, LearnsRow, LearnsEnd, PermitsCell, PermitsEntry, PermitsTrade, PermitsBlock, PermitsMore, entry_roles, placed_roles}
-use Rattle.claim_core.specs.Ties.{Ties, role_view, cell_view, first_stage, Matches, IsInRow, Finds, TiedBy}
-use Rattle.claim_core.specs.Rule.{Kept, size_at}
+use Rattle.claim_core.specs.SeatSteps.{ClaimState, with_views, look_event, writer_of, try_event, MovesByLook, MovesByBegin, MovesByTry, MovesByFill, MovesByBreak, MovesByMend, SeesPlace, SeesIn, Begins, LearnsRow, LearnsEnd, IsStill, PermitsCell, PermitsEntry, PermitsTrade, PermitsBlock, PermitsMore, entry_roles, placed_roles}
+use Rattle.claim_core.specs.Ties.{Ties, role_view, cell_view, first_stage, Matches, IsInRow, Finds, Knows, TiedBy}
+use Rattle.claim_core.specs.Rule.{Fits, Logged, Kept, size_at}
 use Rattle.claim_core.proofs.TiedViews.{at_below, two_seats, each_at, cell_is_no_hand, hand_is_no_block, hand_is_no_entry, entry_is_no_block, tie_hand}
 use Rattle.claim_core.proofs.TiedRows.{first_idle, finds_cases, seat_new, set_front, block_roles, block_seen, tie_block, with_row, with_entry, entry_here, placed_here, knows_published, tie_publish}
 use Rattle.claim_core.proofs.TiedEntries.{with_both, others_spent, tie_enter, tie_adopt}
 use Rattle.claim_core.proofs.RoleSeats.{fits_role, logged_role, fits_all, logged_all}
+use Rattle.claim_core.proofs.Kept.{settled_in}
 use Rattle.claim_core.proofs.HandMoves.{noted, Noted, moves_on, learns}
 use Rattle.claim_core.proofs.CellEvents.{look_legal}
 use Rattle.claim_core.proofs.CellSteps.{looks_at, fills, breaks_at, mends, misses, begins, finds_begun, not_begun, seen_below}
@@ -39,6 +41,7 @@ told_remarks terms s vs id v es step = (
   record {
     seen = refl;
     log = step.adds_events;
+    alone = step.alone;
     same = record { limit = refl; base = refl; mark = refl; filled = refl; mine = refl; shares = refl; begun = refl; rows = refl; laid = refl };
     consistent = step.consistent;
   },
@@ -52,6 +55,7 @@ told_begins terms s vs id v place step = (
   record {
     seen = refl;
     log = step.adds_events;
+    alone = λ whole. step.alone whole ∙ append-nil v.log;
     begun = refl;
     same = record { limit = refl; base = refl; mark = refl; filled = refl; mine = refl; shares = refl; begun = refl; rows = refl; laid = refl };
     consistent = step.consistent;
@@ -66,20 +70,21 @@ told_row terms s vs id v row step = (
   record {
     seen = refl;
     log = step.adds_events;
+    alone = λ whole. step.alone whole ∙ append-nil v.log;
     rows = refl;
     same = record { limit = refl; base = refl; mark = refl; filled = refl; mine = refl; shares = refl; begun = refl; rows = refl; laid = refl };
     consistent = step.consistent;
   },
 )
 
-told_end : (terms : Terms) (s : ClaimState) (vs : List SeatView) (id : ℕ) (v : SeatView) (laid : ℕ)
+told_end : (terms : Terms) (s : ClaimState) (vs : List SeatView) (id : ℕ) (v : SeatView) (laid : ℕ) → v.shares ≡ all_shares
     → Noted terms s vs id v [] v.begun v.rows laid → Told terms s vs id (LearnsEnd v laid)
-told_end terms s vs id v laid step = (
+told_end terms s vs id v laid whole step = (
   noted v step.log v.begun v.rows laid,
   step.kept,
   record {
     seen = refl;
-    log = step.adds_events;
+    log = step.alone whole ∙ append-nil v.log;
     end = refl;
     same = record { limit = refl; base = refl; mark = refl; filled = refl; mine = refl; shares = refl; begun = refl; rows = refl; laid = refl };
     consistent = step.consistent;
@@ -248,6 +253,15 @@ module _
       let knows = kept.tied.each id v at in
       record { finds = knows.finds; busy = knows.busy; within = knows.within; own = knows.own; unlaid = knows.unlaid; hand = knows.hand }))
 
+  -- a look that finds no entry, and names no place
+  pub permits_nothing : (seat from n : ℕ) → PermitsEntry (Kept terms) id v seat (roles.EmptyEntry from n) (Remarks v [])
+  permits_nothing seat from n s kept at entry =
+      told_remarks terms s s.views id v []
+      (learns terms s kept id v is_limit is_base is_filled part at [] refl refl v.begun v.rows v.laid
+      (λ log.
+      let knows = kept.tied.each id v at in
+      record { finds = knows.finds; busy = knows.busy; within = knows.within; own = knows.own; unlaid = knows.unlaid; hand = knows.hand }))
+
   -- a look that finds an entry: the hand then knows the row
   pub permits_row : (seat from n : ℕ)
       → PermitsEntry (Kept terms) id v seat (roles.Placed from n) (LearnsRow v (record { from = from; n = n; seat = seat - n }))
@@ -275,55 +289,140 @@ module _
         hand = knows.hand;
       }))
 
-  -- a block's entry is set, if it was not: the hand then knows the row
+  -- what the hand's view is if it stays as it is
+  pub still : (s : ClaimState) → Kept terms s → get_elem? s.views id ≡ some v → IsStill v v
+  still s kept at =
+      record {
+        same = refl;
+        consistent =
+            settled_in terms (get_or s.words size_at 0) kept.lengths kept.list kept.ties s.views kept.fits kept.logged kept.tied id v at
+            is_limit is_base is_filled;
+      }
+
+  -- the hand may stay as it is
+  pub permits_still : (s : ClaimState) → Kept terms s → get_elem? s.views id ≡ some v → Told terms s s.views id (IsStill v)
+  permits_still s kept at = (
+    v,
+    subst (λ (vs : List SeatView). Kept terms (with_views s vs)) (sym (set_again s.views id v at)) kept,
+    still s kept at,
+  )
+
+  -- a block's entry is set, if it was not
+  module _
+      (entry seat from first n : ℕ) (past : v.base ≤ from) (s : ClaimState) (kept : Kept terms s) (at : get_elem? s.views id ≡ some v)
+      (at_entry : get_elem? s.views entry ≡ some (role_view (roles.EmptyEntry from n)))
+      (at_seat : get_elem? s.views seat ≡ some (role_view (roles.Block first n))) where
+    -- the views of the entry and of the block after that
+    abbrev published : List SeatView
+    published = set (set s.views entry spent_view) seat (role_view (roles.Placed from n))
+
+    is_hand : v.role ≡ roles.Hand
+    is_hand = (kept.tied.each id v at).hand part
+
+    no_entry : id ≢ entry
+    no_entry = two_seats s.views id entry v (role_view (roles.EmptyEntry from n)) at at_entry (λ same. hand_is_no_entry from n (sym is_hand ∙ same))
+
+    no_seat : id ≢ seat
+    no_seat = two_seats s.views id seat v (role_view (roles.Block first n)) at at_seat (λ same. hand_is_no_block first n (sym is_hand ∙ same))
+
+    block_at : get_elem? (set s.views entry spent_view) seat ≡ some (role_view (roles.Block first n))
+    block_at =
+        let apart =
+        two_seats s.views entry seat (role_view (roles.EmptyEntry from n)) (role_view (roles.Block first n)) at_entry at_seat
+        (λ same. entry_is_no_block from n first n same) in
+        set_else s.views entry seat spent_view (λ e. apart (sym e)) ∙ at_seat
+
+    hand_at : get_elem? published id ≡ some v
+    hand_at =
+        set_else (set s.views entry spent_view) seat id (role_view (roles.Placed from n)) no_seat
+        ∙ (set_else s.views entry id spent_view no_entry ∙ at)
+
+    fits_published : Fits terms.limit terms.base (get_or s.words size_at 0) kept.lengths published
+    fits_published =
+        fits_role terms.limit terms.base (get_or s.words size_at 0) kept.lengths (set s.views entry spent_view)
+        (fits_role terms.limit terms.base (get_or s.words size_at 0) kept.lengths s.views kept.fits entry (roles.EmptyEntry from n) roles.Hand at_entry)
+        seat (roles.Block first n) (roles.Placed from n) block_at
+
+    logged_published : Logged terms.limit terms.base terms.mark.filled kept.lengths kept.list published
+    logged_published =
+        logged_role terms.limit terms.base terms.mark.filled kept.lengths kept.list (set s.views entry spent_view)
+        (logged_role terms.limit terms.base terms.mark.filled kept.lengths kept.list s.views kept.logged entry (roles.EmptyEntry from n) roles.Hand at_entry)
+        seat (roles.Block first n) (roles.Placed from n) block_at
+
+    past_base : terms.base ≤ from
+    past_base = let e = is_base in omega arith
+
+    -- what the hand knew is true still
+    still_known : Knows terms.base kept.lengths (with_row kept.ties from n first) v
+    still_known =
+        knows_published terms.limit terms.base terms.mark.filled kept.lengths kept.list kept.ties s.views kept.tied id v at is_hand entry seat from first n at_entry at_seat past_base v v
+        (kept.tied.each id v at)
+
+    -- the hand has a view that knows what is true
+    tied_published : (w : SeatView) → w.role ≡ roles.Hand → Knows terms.base kept.lengths (with_row kept.ties from n first) w
+        → TiedBy terms.limit terms.base terms.mark.filled kept.lengths kept.list (with_row kept.ties from n first) (set published id w)
+    tied_published w also_hand knows =
+        tie_publish terms.limit terms.base terms.mark.filled kept.lengths kept.list kept.ties s.views kept.tied id v at is_hand entry seat from first n at_entry at_seat past_base w
+        also_hand knows
+
+    -- it knows the row
+    publish_row : Told terms s published id (LearnsRow v (record { from = from; n = n; seat = first }))
+    publish_row =
+        let row : RowAt = record { from = from; n = n; seat = first } in
+        told_row terms s published id v row
+        (moves_on terms s kept id v is_limit is_base is_filled part published fits_published logged_published hand_at [] refl kept.list refl v.begun (row ∷ v.rows) v.laid
+        (with_row kept.ties from n first)
+        (λ log.
+        tied_published (noted v log v.begun (row ∷ v.rows) v.laid) is_hand
+        (record {
+          finds = λ place k found.
+              ⊎_elim
+              (λ (c : IsInRow row place k).
+              ap (with_row kept.ties from n first).seat_of c.at ∙ (seat_new kept.ties from n first c.i c.less ∙ ap Some (sym c.in_seat)))
+              (λ (c : Finds v.rows place k). still_known.finds place k c)
+              (finds_cases row v.rows place k found);
+          busy = still_known.busy;
+          within = still_known.within;
+          own = still_known.own;
+          unlaid = still_known.unlaid;
+          hand = still_known.hand;
+        })))
+
+    -- or it stays as it is
+    publish_still : Told terms s published id (IsStill v)
+    publish_still =
+        let same = set_again published id v hand_at in
+        let kept' : Kept terms (with_views s (set published id v)) =
+        record {
+          words = kept.words;
+          lengths = kept.lengths;
+          list = kept.list;
+          ties = with_row kept.ties from n first;
+          fits = subst (Fits terms.limit terms.base (get_or s.words size_at 0) kept.lengths) (sym same) fits_published;
+          logged = subst (Logged terms.limit terms.base terms.mark.filled kept.lengths kept.list) (sym same) logged_published;
+          tied = tied_published v is_hand still_known;
+        } in
+        (v, kept', still s kept at)
+
+  -- the hand then knows the row
   pub permits_publish : (entry seat from first n : ℕ) → v.base ≤ from
       → PermitsTrade (Kept terms) id v entry (role_view (roles.EmptyEntry from n)) spent_view seat (role_view (roles.Block first n))
       (role_view (roles.Placed from n)) (LearnsRow v (record { from = from; n = n; seat = first }))
   permits_publish entry seat from first n past s kept at at_entry at_seat =
-      let row : RowAt = record { from = from; n = n; seat = first } in
-      let size = get_or s.words size_at 0 in
-      let hand : v.role ≡ roles.Hand = (kept.tied.each id v at).hand part in
-      let empty = roles.EmptyEntry from n in
-      let block = roles.Block first n in
-      let placed = roles.Placed from n in
-      let apart = two_seats s.views entry seat (role_view empty) (role_view block) at_entry at_seat (λ same. entry_is_no_block from n first n same) in
-      let no_entry = two_seats s.views id entry v (role_view empty) at at_entry (λ same. hand_is_no_entry from n (sym hand ∙ same)) in
-      let no_seat = two_seats s.views id seat v (role_view block) at at_seat (λ same. hand_is_no_block first n (sym hand ∙ same)) in
-      let vs1 = set s.views entry spent_view in
-      let at_seat1 : get_elem? vs1 seat ≡ some (role_view block) = set_else s.views entry seat spent_view (λ e. apart (sym e)) ∙ at_seat in
-      let vs2 = set vs1 seat (role_view placed) in
-      let at2 : get_elem? vs2 id ≡ some v = set_else vs1 seat id (role_view placed) no_seat ∙ (set_else s.views entry id spent_view no_entry ∙ at) in
-      let fits2 =
-      fits_role terms.limit terms.base size kept.lengths vs1
-      (fits_role terms.limit terms.base size kept.lengths s.views kept.fits entry empty roles.Hand at_entry) seat block placed at_seat1 in
-      let logged2 =
-      logged_role terms.limit terms.base terms.mark.filled kept.lengths kept.list vs1
-      (logged_role terms.limit terms.base terms.mark.filled kept.lengths kept.list s.views kept.logged entry empty roles.Hand at_entry) seat block placed at_seat1 in
-      let past_base : terms.base ≤ from = let e = is_base in omega arith in
-      told_trade terms s entry spent_view seat (role_view placed) id (LearnsRow v row) (λ e. no_entry (sym e)) (λ e. no_seat (sym e))
-      (told_row terms s vs2 id v row
-      (moves_on terms s kept id v is_limit is_base is_filled part vs2 fits2 logged2 at2 [] refl kept.list refl v.begun (row ∷ v.rows) v.laid
-      (with_row kept.ties from n first)
-      (λ log.
-      let w = noted v log v.begun (row ∷ v.rows) v.laid in
-      let knows =
-      knows_published terms.limit terms.base terms.mark.filled kept.lengths kept.list kept.ties s.views kept.tied id v at hand entry seat from first n at_entry at_seat past_base w v
-      (kept.tied.each id v at) in
-      tie_publish terms.limit terms.base terms.mark.filled kept.lengths kept.list kept.ties s.views kept.tied id v at hand entry seat from first n at_entry at_seat past_base w
-      hand
-      (record {
-        finds = λ place k found.
-            ⊎_elim
-            (λ (c : IsInRow row place k).
-            ap (with_row kept.ties from n first).seat_of c.at ∙ (seat_new kept.ties from n first c.i c.less ∙ ap Some (sym c.in_seat)))
-            (λ (c : Finds v.rows place k). knows.finds place k c)
-            (finds_cases row v.rows place k found);
-        busy = knows.busy;
-        within = knows.within;
-        own = knows.own;
-        unlaid = knows.unlaid;
-        hand = knows.hand;
-      }))))
+      told_trade terms s entry spent_view seat (role_view (roles.Placed from n)) id (LearnsRow v (record { from = from; n = n; seat = first }))
+      (λ e. no_entry entry seat from first n past s kept at at_entry at_seat (sym e))
+      (λ e. no_seat entry seat from first n past s kept at at_entry at_seat (sym e))
+      (publish_row entry seat from first n past s kept at at_entry at_seat)
+
+  -- the same, if the hand learns nothing
+  pub permits_unseen : (entry seat from first n : ℕ) → v.base ≤ from
+      → PermitsTrade (Kept terms) id v entry (role_view (roles.EmptyEntry from n)) spent_view seat (role_view (roles.Block first n))
+      (role_view (roles.Placed from n)) (IsStill v)
+  permits_unseen entry seat from first n past s kept at at_entry at_seat =
+      told_trade terms s entry spent_view seat (role_view (roles.Placed from n)) id (IsStill v)
+      (λ e. no_entry entry seat from first n past s kept at at_entry at_seat (sym e))
+      (λ e. no_seat entry seat from first n past s kept at at_entry at_seat (sym e))
+      (publish_still entry seat from first n past s kept at at_entry at_seat)
 
   -- ---- Seats that are made
 
@@ -380,7 +479,7 @@ module _
     permits_entry s kept at =
         let made = entry_roles from n (length s.views) in
         told_front terms s s.views (map role_view made) id (LearnsEnd v (from + n)) (at_below s.views id v at)
-        (told_end terms s (s.views ++ map role_view made) id v (from + n)
+        (told_end terms s (s.views ++ map role_view made) id v (from + n) whole
         (makes s kept at made (from + n) (with_entry kept.ties from n (length s.views))
         (λ log.
         let w = noted v log v.begun v.rows (from + n) in
@@ -395,7 +494,7 @@ module _
         let stage = first_stage terms.base terms.mark.filled in
         let made = placed_roles stage from n (length s.views) in
         told_front terms s s.views (map role_view made) id (LearnsEnd v (from + n)) (at_below s.views id v at)
-        (told_end terms s (s.views ++ map role_view made) id v (from + n)
+        (told_end terms s (s.views ++ map role_view made) id v (from + n) whole
         (makes s kept at made (from + n) (with_both kept.ties from n (length s.views))
         (λ log.
         let w = noted v log v.begun v.rows (from + n) in

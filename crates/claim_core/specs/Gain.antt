@@ -1,5 +1,6 @@
 -- What a hand gains by a step on a cell or an entry that its seat goes along with.
-use Rattle.std.specs.Prelude.{◌≡◌, ℕ, Option, Some, None, List, [], ◌∷◌, ◌++◌}
+use Rattle.std.specs.Prelude.{◌≡◌, ℕ, ◌+◌, ◌<◌, ◌≤◌, Option, Some, None, List, [], ◌∷◌, ◌++◌}
+use Rattle.std.specs.List.{Contains}
 use Rattle.atomic_table.specs.Seated.{TableId}
 use Rattle.book_core.specs.declared.events.Event.{Event}
 use Rattle.book_core.specs.declared.events.Reply.{Reply}
@@ -10,8 +11,8 @@ use Rattle.claim_core.specs.declared.role.RowAt.{RowAt}
 use Rattle.claim_core.specs.declared.seat_view.SeatView.{SeatView}
 use Rattle.claim_core.specs.Lengths.{InRun}
 use Rattle.claim_core.specs.Word.{WordView}
-use Rattle.claim_core.specs.History.{Log, AddsEvents}
-use Rattle.claim_core.specs.Hand.{HandView}
+use Rattle.claim_core.specs.History.{Log, AddsEvents, Adds}
+use Rattle.claim_core.specs.Hand.{HandView, IsWholeHand, OwnsPlace}
 use Rattle.claim_core.specs.Lent.{lent_hand, seat_hand}
 
 -- events of the history, places that it then knows begun, and rows of cells that it then knows
@@ -19,6 +20,10 @@ pub record Gain : Type 0 where
   pub events : Log
   pub begun : List ℕ
   pub rows : List RowAt
+
+-- nothing
+abbrev pub no_gain : Gain
+no_gain = record { events = []; begun = []; rows = [] }
 
 -- one event
 abbrev pub an_event : Event × Reply → Gain
@@ -32,13 +37,14 @@ a_begin place = record { events = []; begun = place ∷ []; rows = [] }
 abbrev pub a_row : RowAt → Gain
 a_row row = record { events = []; begun = []; rows = row ∷ [] }
 
--- the hand has gained this, and nothing else of it has changed
+-- the hand has gained this, and nothing else of it has changed; if it is whole, nobody else adds an event
 pub record Gains (gain : Gain) (old new : HandView) : Type 0 where
   pub of : new.of ≡ old.of
   pub seen : new.seen ≡ old.seen
   pub mine : new.mine ≡ old.mine
   pub shares : new.shares ≡ old.shares
   pub log : AddsEvents old.log gain.events new.log
+  pub alone : IsWholeHand old → new.log ≡ old.log ++ gain.events
   pub begun : new.begun ≡ gain.begun ++ old.begun
   pub rows : new.rows ≡ gain.rows ++ old.rows
   pub laid : new.laid ≡ old.laid
@@ -53,13 +59,35 @@ abbrev pub GainsFrom : (Content → Gain) → Option Content → HandView → Ha
 GainsFrom gain None old new = ⊥
 GainsFrom gain (Some found) old new = Gains (gain found) old new
 
+-- what a hand gains by one step on a run of cells: lists of events, one for each cell at most, and places that it then
+-- knows begun
+pub record ChainGain : Type 0 where
+  pub steps : List Log
+  pub begun : List ℕ
+
+-- the hand has gained this, and nothing else of it has changed. Events of others may come before each list
+pub record GainsChain (gain : ChainGain) (old new : HandView) : Type 0 where
+  pub of : new.of ≡ old.of
+  pub seen : new.seen ≡ old.seen
+  pub mine : new.mine ≡ old.mine
+  pub shares : new.shares ≡ old.shares
+  pub log : Adds old.log gain.steps new.log
+  pub begun : new.begun ≡ gain.begun ++ old.begun
+  pub rows : new.rows ≡ old.rows
+  pub laid : new.laid ≡ old.laid
+
+-- it has gained what a step on a run says of the stages of each cell before and after it
+abbrev pub GainsAlong : (List Made → ChainGain → Type 0) → Option (List Made) → HandView → HandView → Type 0
+GainsAlong gains None old new = ⊥
+GainsAlong gains (Some ms) old new = (gain : ChainGain) × gains ms gain × GainsChain gain old new
+
 -- it knows that no place from this one on has an entry, and nothing else of it has changed
 pub record EndsAt (end : ℕ) (old new : HandView) : Type 0 where
   pub of : new.of ≡ old.of
   pub seen : new.seen ≡ old.seen
   pub mine : new.mine ≡ old.mine
   pub shares : new.shares ≡ old.shares
-  pub log : AddsEvents old.log [] new.log
+  pub log : new.log ≡ old.log
   pub begun : new.begun ≡ old.begun
   pub rows : new.rows ≡ old.rows
   pub laid : new.laid ≡ end
@@ -84,3 +112,11 @@ IsEntryTo word tie = IsEntryOf word.table word.floor tie
 -- the place lies in a run that the hand has seen
 abbrev pub HasSeenPlace : HandView → ℕ → Type 0
 HasSeenPlace hand place = (index : ℕ) × InRun hand.of.base hand.seen index place
+
+-- the hand owns n places from one on
+abbrev pub OwnsPlaces : HandView → ℕ → ℕ → Type 0
+OwnsPlaces hand from n = (place : ℕ) → from ≤ place → place < from + n → OwnsPlace hand place
+
+-- it knows none of them begun
+abbrev pub KnowsNoneBegun : HandView → ℕ → ℕ → Type 0
+KnowsNoneBegun hand from n = (place : ℕ) → from ≤ place → place < from + n → Contains hand.begun place → ⊥

@@ -58,10 +58,11 @@ IsHandOf word hand = hand.of ≡ word
 abbrev pub IsWholeHand : HandView → Type 0
 IsWholeHand hand = hand.shares ≡ all_shares
 
--- the word's first hand has all shares, and has seen nothing
+-- the word's first hand has all shares, and has seen nothing; entries may have been made since the word was opened
 abbrev pub IsNewHand : WordView → HandView → Type 0
 IsNewHand word hand =
-    hand ≡ record { of = word; seen = []; mine = []; shares = all_shares; log = []; begun = []; rows = []; laid = 0 }
+    hand
+    ≡ record { of = word; seen = []; mine = []; shares = all_shares; log = []; begun = []; rows = []; laid = hand.laid }
 
 -- the hand's word, indices and shares are as before
 pub record KeepsOwn (old new : HandView) : Type 0 where

@@ -100,7 +100,11 @@ past_event place size = (Look 0 place, replies.OutOfRange size)
 abbrev pub fill_event : ℕ → ℕ → Event × Reply
 fill_event actor place = (Finish actor place place, replies.Done)
 
--- or breaks it
+-- an actor fills n places from one on, in order, each by a step of its own
+abbrev pub fill_steps : ℕ → ℕ → ℕ → List Log
+fill_steps actor from n = map (λ place. fill_event actor place ∷ []) (range_with_len from n)
+
+-- an actor breaks a place
 abbrev pub break_event : ℕ → ℕ → Event × Reply
 break_event actor place = (Break actor place, replies.Done)
 

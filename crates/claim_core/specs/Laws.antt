@@ -1,16 +1,19 @@
 -- What follows from the definitions of runs and hands alone.
-use Rattle.std.specs.Prelude.{◌≡◌, ℕ, ◌+◌, ◌<◌, ◌≤◌, ◌≢◌, ◌↔◌, ◌⊎◌, Bool, List, [], ◌∷◌, ◌++◌, length, Some, slice_get}
+use Rattle.std.specs.Prelude.{◌≡◌, ℕ, ◌+◌, ◌<◌, ◌≤◌, ◌≢◌, ◌↔◌, ◌⊎◌, Bool, List, [], ◌∷◌, ◌++◌, length, replicate, Some, slice_get}
 use Rattle.std.specs.List.{Contains}
 use mathlib.Core.List.{IsPrefix}
+use Rattle.tie_core.specs.Tie.{Begun, Filled}
 use Rattle.claim_core.specs.declared.run.Run.{Run}
 use Rattle.claim_core.specs.Lengths.{InRun, places_in, runs_end}
-use Rattle.book_core.specs.declared.events.Event.TheVariants.{Mend}
+use Rattle.book_core.specs.declared.events.Event.TheVariants.{Look, Mend}
+use Rattle.book_core.specs.declared.events.Reply.{Reply}
 use Rattle.book_core.specs.declared.events.Reply.TheVariants as replies
 use Rattle.book_core.specs.Cells.{CellList}
 use Rattle.book_core.specs.History.{IsHistory, runs_of, owner_of}
-use Rattle.claim_core.specs.History.{Log, AddsEvents, Adds, IsHistoryOf, first_list, value_cell, fill_event, break_event, first_cell, lengths_of, claim_event, size_event, IsNote, no_note, full_note, growth_note, reach_note, range_note}
+use Rattle.claim_core.specs.History.{Log, AddsEvents, Adds, IsHistoryOf, first_list, value_cell, fill_event, fill_steps, break_event, first_cell, lengths_of, claim_event, size_event, IsNote, no_note, full_note, growth_note, reach_note, range_note}
 use Rattle.claim_core.specs.Word.{WordView, first_at}
 use Rattle.claim_core.specs.Hand.{HandView, KeepsOwn, KeepsCells, SeesBegun, AddsRun, SeesRun, OwnsRun, OwnsPlace, SeesOwn, GainsRun, OwnApart, IsOwnRun, IsPlaceOf, AreDisjoint, single, seen_size, own_places}
+use Rattle.claim_core.specs.Plays.{fills_by, places_back}
 
 -- a run stays where it is when the list goes on
 abbrev pub RunsStay : Type 0
@@ -233,6 +236,32 @@ BreaksHaveOwners =
     (limit base actor place : ℕ) (filled : List Bool) (before after : Log)
     → IsHistoryOf limit base filled (before ++ break_event actor place ∷ after)
     → (owner_of (runs_of before) place ≡ Some actor) ⊎ Contains before (Mend actor place, replies.Done)
+
+-- a look that comes after a place was filled shows its value
+abbrev pub FinishedPlacesAreFound : Type 0
+FinishedPlacesAreFound =
+    (limit base actor place : ℕ) (filled : List Bool) (old new : Log) (reply : Reply) → Contains old (fill_event actor place)
+    → Adds old (((Look 0 place, reply) ∷ []) ∷ []) new → IsHistoryOf limit base filled new → reply ≡ replies.Value place
+
+-- a look that shows a value comes after the place was filled, if a word did not begin with the place
+abbrev pub ShownPlacesAreFinished : Type 0
+ShownPlacesAreFinished =
+    (limit base place : ℕ) (filled : List Bool) (before after : Log) → base ≤ place
+    → IsHistoryOf limit base filled (before ++ (Look 0 place, replies.Value place) ∷ after)
+    → (actor : ℕ) × Contains before (fill_event actor place)
+
+-- if one history goes on from each of two others, one of these goes on from the other
+abbrev pub HistoriesAreOne : Type 0
+HistoriesAreOne = (a b all : Log) → IsPrefix a all → IsPrefix b all → IsPrefix a b ⊎ IsPrefix b a
+
+-- a step that fills n begun cells adds a fill of each place, in order, by the claim whose index their run has
+abbrev pub BegunRunsAreFilled : Type 0
+BegunRunsAreFilled =
+    (limit index place n : ℕ) → fills_by limit index place (replicate n (Begun, Filled)) ≡ fill_steps index place n
+
+-- the places that a step on a run begins are those of the run
+abbrev pub BegunPlacesAreOfTheRun : Type 0
+BegunPlacesAreOfTheRun = (place n q : ℕ) → Contains (places_back place n) q → (place ≤ q) × (q < place + n)
 
 -- of a run that a step adds, the hand knows no place begun
 abbrev pub AddedPlacesAreNotBegun : Type 0

@@ -31,11 +31,14 @@ word_view table terms floor =
       floor = floor;
     }
 
--- the table has its words and no slot, its rule has these terms, and the desk is of this table
+-- the table has its words and no slot, and the desk is of this table. Its rule has these terms; only the numbers of the
+-- mark may differ
 pub record IsOpened (table : TableId) (key terms : Terms) (desk_table : TableId) (desk_key : Terms) : Type 0 where
   pub words : table.words ≡ word_count
   pub slots : table.slots ≡ 0
-  pub key_is : key ≡ terms
+  pub key_limit : key.limit ≡ terms.limit
+  pub key_base : key.base ≡ terms.base
+  pub key_filled : key.mark.filled ≡ terms.mark.filled
   pub limit : AreBounds terms.limit terms.base
   pub desk_of : desk_table ≡ table
   pub desk_terms : desk_key ≡ key

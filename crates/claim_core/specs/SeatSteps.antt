@@ -17,6 +17,7 @@ use Rattle.claim_core.specs.declared.role.RowAt.{RowAt}
 use Rattle.claim_core.specs.declared.seat_view.SeatView.{SeatView}
 use Rattle.claim_core.specs.Lengths.{InRun, runs_end}
 use Rattle.claim_core.specs.History.{AddsEvents, mender_of, mend_event}
+use Rattle.claim_core.specs.Shares.{all_shares}
 use Rattle.claim_core.specs.SeatView.{SameOwn, IsConsistent}
 use Rattle.claim_core.specs.Ties.{cell_view, role_view}
 
@@ -88,18 +89,20 @@ SeesPlace v place = place < runs_end v.base v.seen
 abbrev pub SeesIn : SeatView → ℕ → ℕ → Type 0
 SeesIn v index place = InRun v.base v.seen index place ⊎ (place < v.base)
 
--- the seat knows of one more place that it is begun; nothing else is learned
+-- the seat knows of one more place that it is begun; nothing else is learned. If it has all shares, nobody adds an event
 pub record Begins (v : SeatView) (place : ℕ) (w : SeatView) : Type 0 where
   pub seen : w.seen ≡ v.seen
   pub log : AddsEvents v.log [] w.log
+  pub alone : v.shares ≡ all_shares → w.log ≡ v.log
   pub begun : w.begun ≡ place ∷ v.begun
   pub same : SameOwn v (record w { begun = v.begun })
   pub consistent : IsConsistent w
 
--- the seat knows one more row; nothing else is learned
+-- the seat knows one more row; nothing else is learned. If it has all shares, nobody adds an event
 pub record LearnsRow (v : SeatView) (row : RowAt) (w : SeatView) : Type 0 where
   pub seen : w.seen ≡ v.seen
   pub log : AddsEvents v.log [] w.log
+  pub alone : v.shares ≡ all_shares → w.log ≡ v.log
   pub rows : w.rows ≡ row ∷ v.rows
   pub same : SameOwn v (record w { rows = v.rows })
   pub consistent : IsConsistent w
@@ -107,9 +110,14 @@ pub record LearnsRow (v : SeatView) (row : RowAt) (w : SeatView) : Type 0 where
 -- no place from this one on has an entry; nothing else is learned
 pub record LearnsEnd (v : SeatView) (laid : ℕ) (w : SeatView) : Type 0 where
   pub seen : w.seen ≡ v.seen
-  pub log : AddsEvents v.log [] w.log
+  pub log : w.log ≡ v.log
   pub end : w.laid ≡ laid
   pub same : SameOwn v (record w { laid = v.laid })
+  pub consistent : IsConsistent w
+
+-- the seat is what it was
+pub record IsStill (v w : SeatView) : Type 0 where
+  pub same : w ≡ v
   pub consistent : IsConsistent w
 
 -- ---- What a rule must permit

@@ -164,12 +164,17 @@ pub record Settles (v w : SeatView) : Type 0 where
   pub same : SameOwn v w
   pub consistent : IsConsistent w
 
--- the seat has added these events to the history; nothing else is learned
+-- the seat has added these events to the history; nothing else is learned. If it has all shares, nobody else adds any
 pub record Remarks (v : SeatView) (es : Log) (w : SeatView) : Type 0 where
   pub seen : w.seen ≡ v.seen
   pub log : AddsEvents v.log es w.log
+  pub alone : v.shares ≡ all_shares → w.log ≡ v.log ++ es
   pub same : SameOwn v w
   pub consistent : IsConsistent w
+
+-- the same seat, of a word with these numbers in its mark
+abbrev pub marked : List ℕ → SeatView → SeatView
+marked numbers v = record v { mark = numbers }
 
 -- what a step learns of its seat
 abbrev pub Seated : Type 0
@@ -186,6 +191,10 @@ loaded_as note step v found w = Looks v.0 found (note found) w.0 × (w.1 ≡ v.1
 -- a load that logs a growth without memory
 abbrev pub lacked : Step (Unit {0}) → Seated → ℕ → Seated → Type 0
 lacked step v found w = Remarks v.0 (memory_event ∷ []) w.0 × (w.1 ≡ v.1)
+
+-- a load that sets the numbers of the mark
+abbrev pub marked_as : List ℕ → Step (Unit {0}) → Seated → ℕ → Seated → Type 0
+marked_as numbers step v found w = (w.0 ≡ marked numbers v.0) × (w.1 ≡ v.1)
 
 -- the load that ends a join
 abbrev pub settled : Step (Unit {0}) → Seated → ℕ → Seated → Type 0

@@ -19,7 +19,7 @@ use Rattle.claim_core.specs.Shares.{all_shares}
 use Rattle.claim_core.specs.SeatView.{spent_view, IsConsistent, Remarks, Claims}
 use Rattle.claim_core.specs.Ties.{role_view, cell_view, first_stage, Finds, Matches}
 use Rattle.claim_core.specs.Rule.{Kept}
-use Rattle.claim_core.specs.SeatSteps.{ClaimState, look_event, writer_of, try_event, MovesByLook, MovesByBegin, MovesByTry, MovesByFill, MovesByBreak, MovesByMend, SeesPlace, SeesIn, Begins, LearnsRow, LearnsEnd, PermitsCell, PermitsEntry, PermitsTrade, PermitsBlock, PermitsMore, entry_roles, placed_roles}
+use Rattle.claim_core.specs.SeatSteps.{ClaimState, look_event, writer_of, try_event, MovesByLook, MovesByBegin, MovesByTry, MovesByFill, MovesByBreak, MovesByMend, SeesPlace, SeesIn, Begins, LearnsRow, LearnsEnd, IsStill, PermitsCell, PermitsEntry, PermitsTrade, PermitsBlock, PermitsMore, entry_roles, placed_roles}
 
 -- the seat is one of a hand of a word with these terms
 pub record IsHandSeat (terms : Terms) (v : SeatView) : Type 0 where
@@ -85,6 +85,12 @@ BareLooksArePermitted =
     → v.base ≤ place → SeesPlace v place
     → PermitsEntry (Kept terms) id v seat (roles.EmptyEntry from n) (Remarks v (look_event place stages.Idle ∷ []))
 
+-- a look that finds no entry, and names no place, logs nothing
+abbrev pub ScoutsArePermitted : Type 0
+ScoutsArePermitted =
+    (terms : Terms) (id seat from n : ℕ) (v : SeatView) → IsHandSeat terms v
+    → PermitsEntry (Kept terms) id v seat (roles.EmptyEntry from n) (Remarks v [])
+
 -- a hand that finds an entry set learns where its places stand
 abbrev pub RowsArePermitted : Type 0
 RowsArePermitted =
@@ -99,6 +105,13 @@ PublishingIsPermitted =
     → PermitsTrade (Kept terms) id v entry (role_view (roles.EmptyEntry from n)) spent_view seat
     (role_view (roles.Block first n)) (role_view (roles.Placed from n))
     (LearnsRow v (record { from = from; n = n; seat = first }))
+
+-- it may be set also beside a hand that stays as it is
+abbrev pub UnseenPublishingIsPermitted : Type 0
+UnseenPublishingIsPermitted =
+    (terms : Terms) (id entry seat from first n : ℕ) (v : SeatView) → IsHandSeat terms v → v.base ≤ from
+    → PermitsTrade (Kept terms) id v entry (role_view (roles.EmptyEntry from n)) spent_view seat
+    (role_view (roles.Block first n)) (role_view (roles.Placed from n)) (IsStill v)
 
 -- a block and its cells may be made
 abbrev pub LayingIsPermitted : Type 0
@@ -120,6 +133,7 @@ AdoptionIsPermitted =
 -- the history of a whole hand leads to a list that shows of each place, of a row that it knows, what its cell is at
 pub record ShowsWhole (terms : Terms) (s : ClaimState) (v : SeatView) : Type 0 where
   pub lengths : List ℕ
+  pub seen : v.seen ≡ lengths
   pub list : CellList
   pub history : IsHistory (first_list terms.limit terms.base terms.mark.filled) v.log list
   pub cells : (place seat : ℕ) (stage : CellStage) → Finds v.rows place seat

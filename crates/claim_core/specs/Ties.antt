@@ -7,6 +7,7 @@ use lib.ListN.{get_elem?}
 use Rattle.book_core.specs.declared.cells.Cell.{Cell}
 use Rattle.book_core.specs.declared.cells.Cell.TheVariants.{Pending}
 use Rattle.book_core.specs.Cells.{CellList}
+use Rattle.book_core.specs.History.{IsHistory}
 use Rattle.claim_core.specs.declared.role.CellStage.{CellStage}
 use Rattle.claim_core.specs.declared.role.CellStage.TheVariants as stages
 use Rattle.claim_core.specs.declared.role.Role.{Role}
@@ -14,7 +15,7 @@ use Rattle.claim_core.specs.declared.role.Role.TheVariants as roles
 use Rattle.claim_core.specs.declared.role.RowAt.{RowAt}
 use Rattle.claim_core.specs.declared.seat_view.SeatView.{SeatView}
 use Rattle.claim_core.specs.Lengths.{InRun, runs_end}
-use Rattle.claim_core.specs.History.{value_cell, broken_cell, mender_of}
+use Rattle.claim_core.specs.History.{Log, first_list, value_cell, broken_cell, mender_of}
 use Rattle.claim_core.specs.SeatView.{spent_view}
 
 -- ---- Views
@@ -56,6 +57,12 @@ Matches limit base lengths place cell stages.Mending = cell ≡ Some (Pending (m
 Matches limit base lengths place cell stages.Filled = cell ≡ Some (value_cell place)
 Matches limit base lengths place cell stages.Broken = cell ≡ Some broken_cell
 
+-- the history leads to a list that shows the place as a cell at this stage is
+pub record LeadsTo (limit base : ℕ) (filled : List Bool) (lengths : List ℕ) (log : Log) (place : ℕ) (stage : CellStage) : Type 0 where
+  pub list : CellList
+  pub history : IsHistory (first_list limit base filled) log list
+  pub shows : Matches limit base lengths place (slice_get list.cells place) stage
+
 -- ---- The knowledge of seats
 
 -- the row has the place, in the cell of this seat
@@ -68,6 +75,10 @@ pub record IsInRow (row : RowAt) (place seat : ℕ) : Type 0 where
 -- one of the rows has it
 abbrev pub Finds : List RowAt → ℕ → ℕ → Type 0
 Finds rows place seat = (row : RowAt) × Contains rows row × IsInRow row place seat
+
+-- the rows have n places from one on, in cells whose seats have numbers in a row from this one on
+abbrev pub FindsRun : List RowAt → ℕ → ℕ → ℕ → Type 0
+FindsRun rows place n seat = (i : ℕ) → i < n → Finds rows (place + i) (seat + i)
 
 -- The knowledge of a seat is true. Its rows say which seats the cells of places have. A place that it knows begun is
 -- not idle, and it has seen the place. Of its own runs it knows all places that are not idle. A seat with shares is a

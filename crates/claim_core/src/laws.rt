@@ -10,7 +10,9 @@ ghost use Rattle.claim_core.specs.Laws.{OwnCountsStay};
 ghost use Rattle.claim_core.specs.Laws.{EventsFollow, PrefixesAddNothing, StepsGoOn, StepsStay};
 ghost use Rattle.claim_core.specs.Laws.{FirstPlacesAreTold, SizesCountClaims, ClaimsBeginAtTheSize, ClaimsHaveTheirTurn};
 ghost use Rattle.claim_core.specs.Laws.{FilledPlacesStay, FillsAreOnce, FillsHaveOwners, BreaksHaveOwners};
+ghost use Rattle.claim_core.specs.Laws.{FinishedPlacesAreFound, ShownPlacesAreFinished, HistoriesAreOne};
 ghost use Rattle.claim_core.specs.Laws.{AddedPlacesAreNotBegun};
+ghost use Rattle.claim_core.specs.Laws.{BegunRunsAreFilled, BegunPlacesAreOfTheRun};
 ghost use Rattle.claim_core.specs.Laws.{NothingIsNote, FullIsNote, GrowthIsNote, ReachIsNote, RangeIsNote};
 
 /// States that a run stays where it is when the list grows.
@@ -187,4 +189,26 @@ pub fn places_are_filled_once()
 /// States that a hand knows no place begun of a run that a step adds.
 pub fn added_places_are_not_begun()
     ensures { AddedPlacesAreNotBegun }
+{}
+
+/// States that a look shows the value of a place that was filled before it in the history.
+pub fn finished_places_are_found()
+    ensures { FinishedPlacesAreFound }
+{}
+
+/// States that a place was filled before a look that shows its value, unless the history begins with the place.
+pub fn shown_places_are_finished()
+    ensures { ShownPlacesAreFinished }
+{}
+
+/// States that one of two histories goes on from the other, if one history goes on from both.
+pub fn histories_are_one()
+    ensures { HistoriesAreOne }
+{}
+
+/// States what a step on a run of cells adds: if it fills cells that were begun, a fill of each place in order; if it
+/// begins them, the run's places.
+pub fn runs_go_in_order()
+    ensures fills { BegunRunsAreFilled }
+    ensures begins { BegunPlacesAreOfTheRun }
 {}

@@ -19,18 +19,22 @@
 
 mod claims;
 mod hand;
+mod labels;
 pub mod laws;
 mod mark;
 mod notes;
 mod offers;
 mod plays;
+mod reads;
 mod role;
 mod rule;
 mod run;
+mod run_offers;
 mod seat;
 mod seat_view;
 mod split_and_join;
 pub mod step_laws;
+mod tags;
 mod terms;
 mod visits;
 mod word;
@@ -41,12 +45,15 @@ pub use notes::Notes;
 pub use offers::{CellTag, HandOffer};
 pub use plays::{
     BeginAt, CellGain, EntryAt, EntryGain, FillAt, FillMended, FindRow, HandPlay, LookAt, MendAt,
-    NewBlock, NewEntry, SetRow, SpoilAt, SpoilMended, VisitPlay,
+    NewBlock, NewEntry, ScoutRow, SetRow, SpoilAt, SpoilMended, Unseen, VisitPlay,
 };
+pub use reads::ReadCell;
 pub use role::{CellStage, Role, RowAt};
 pub use rule::OneList;
 pub use run::{Enough, Moved, Run};
+pub use run_offers::{BeginRun, FillRun, HandRunOffer, RunGain, RunHandPlay};
 pub use seat_view::SeatView;
+pub use tags::RowTags;
 pub use terms::Terms;
-pub use visits::{BlockSeat, HandVisit, RowTag};
+pub use visits::{BlockSeat, HandVisit, RowTag, UnseenVisit};
 pub use word::{OpenError, Word};

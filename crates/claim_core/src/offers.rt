@@ -32,7 +32,7 @@ pub type HandOffer<'a, M> = Offer<
 impl Hand {
     // Lends the seat for a step that the rule allows.
     #[inline(always)]
-    fn lend<'a, M: HandPlay, A: Allocator>(
+    pub(crate) fn lend<'a, M: HandPlay, A: Allocator>(
         &mut self,
         word: &'a Word<A>,
         tag: &CellTag,

@@ -192,6 +192,17 @@ impl<R: EntryAt> VisitPlay for FindRow<R> {
     ghost gain = { found_gain R.from R.n };
 }
 
+/// A look at an entry that names no place.
+pub struct ScoutRow<R> {
+    entry: PhantomData<R>,
+}
+
+impl<R: EntryAt> VisitPlay for ScoutRow<R> {
+    ghost use Rattle.claim_core.specs.Plays.{scout_gain};
+
+    ghost gain = { scout_gain R.from R.n };
+}
+
 /// An exchange that sets an entry to a block.
 pub struct SetRow<R> {
     entry: PhantomData<R>,
@@ -201,6 +212,15 @@ impl<R: EntryAt> VisitPlay for SetRow<R> {
     ghost use Rattle.claim_core.specs.Plays.{set_gain};
 
     ghost gain = { set_gain R.from R.n R.first };
+}
+
+/// An exchange that sets an entry to a block and teaches the hand nothing.
+pub struct Unseen;
+
+impl EntryPlay<SeatView> for Unseen {
+    ghost use Rattle.claim_core.specs.Plays.{unseen};
+
+    ghost then = { unseen };
 }
 
 /// The making of an entry.

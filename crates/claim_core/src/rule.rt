@@ -55,6 +55,30 @@ impl Play<(), SeatView> for Lack {
     ghost then = { lacked };
 }
 
+/// The numbers of a mark that is set again, chosen by each call.
+pub trait Labels {
+    ghost use Rattle.std.specs.Prelude.{ℕ, List};
+
+    ghost numbers: { List ℕ };
+}
+
+impl Labels for Brand {
+    ghost use Rattle.std.specs.Prelude.{[]};
+
+    ghost numbers = { [] };
+}
+
+/// A load that sets the numbers of the mark. It shows no size.
+pub struct MarkAs<P: Labels> {
+    labels: PhantomData<P>,
+}
+
+impl<P: Labels> Play<(), SeatView> for MarkAs<P> {
+    ghost use Rattle.claim_core.specs.SeatView.{marked_as};
+
+    ghost then = { marked_as P.numbers };
+}
+
 /// The load that ends a join. It shows no size.
 pub struct Settle;
 

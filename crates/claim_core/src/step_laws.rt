@@ -3,7 +3,8 @@
 ghost use Rattle.claim_core.specs.StepLaws.{LooksArePermitted, FillsArePermitted, BreaksArePermitted};
 ghost use Rattle.claim_core.specs.StepLaws.{MendsArePermitted};
 ghost use Rattle.claim_core.specs.StepLaws.{BeginsArePermitted, TriesArePermitted};
-ghost use Rattle.claim_core.specs.StepLaws.{BareLooksArePermitted, RowsArePermitted, PublishingIsPermitted};
+ghost use Rattle.claim_core.specs.StepLaws.{BareLooksArePermitted, ScoutsArePermitted, RowsArePermitted};
+ghost use Rattle.claim_core.specs.StepLaws.{PublishingIsPermitted, UnseenPublishingIsPermitted};
 ghost use Rattle.claim_core.specs.StepLaws.{LayingIsPermitted, EntriesArePermitted, AdoptionIsPermitted};
 ghost use Rattle.claim_core.specs.StepLaws.{WholeHandsShowAll, ClaimsAreNotBegun};
 
@@ -27,17 +28,20 @@ pub fn begins_are_permitted()
     ensures exchange { TriesArePermitted }
 {}
 
-/// States that a look which finds no entry logs that the place is pending, and that a hand which finds an entry
-/// learns where its places stand.
+/// States that a look which finds no entry logs that the place is pending, or nothing if it names none, and that a
+/// hand which finds an entry learns where its places stand.
 pub fn entries_are_found()
     ensures bare { BareLooksArePermitted }
+    ensures nothing { ScoutsArePermitted }
     ensures rows { RowsArePermitted }
 {}
 
-/// States that a block may be made, and that an entry which is not set may be set to it.
+/// States that a block may be made, and that an entry which is not set may be set to it, by a hand that learns where
+/// its places stand, or that learns nothing.
 pub fn blocks_are_permitted()
     ensures laying { LayingIsPermitted }
     ensures publishing { PublishingIsPermitted }
+    ensures unseen { UnseenPublishingIsPermitted }
 {}
 
 /// States that a whole hand may make an entry past all that there are, not set, or set to a block whose cells are

@@ -1,6 +1,6 @@
 //! How a hand lends its seat to a visit, for one step on an entry that is tied to its word; and how seats of
 //! new blocks and entries are made.
-ghost use Rattle.std.specs.Prelude.{◌≡◌, ◌+◌, ◌<◌, ◌≤◌, [], ◌∷◌, Some, None, length};
+ghost use Rattle.std.specs.Prelude.{◌≡◌, ℕ, ◌+◌, ◌<◌, ◌≤◌, [], ◌∷◌, Some, None, length};
 ghost use Rattle.tie_core.specs.Tie.{row_of};
 ghost use Rattle.tie_core.specs.Visit.{HasVisited};
 ghost use Rattle.claim_core.specs.Hand.{HandView, IsHandOf, IsWholeHand, seen_size};
@@ -9,7 +9,9 @@ ghost use Rattle.claim_core.specs.Plays.{block_view};
 
 use crate::hand::Hand;
 use crate::offers::CellTag;
-use crate::plays::{EntryAt, EntryGain, FindRow, NewBlock, NewEntry, SetRow, VisitPlay};
+use crate::plays::{
+    EntryAt, EntryGain, FindRow, NewBlock, NewEntry, ScoutRow, SetRow, Unseen, VisitPlay,
+};
 use crate::rule::OneList;
 use crate::seat_view::SeatView;
 use crate::terms::Terms;
@@ -30,6 +32,13 @@ pub type HandVisit<'a, M> = Visit<
     'a,
     Moving<SeatView, Terms>,
     SeatVisit<(), SeatView, Terms, OneList, EntryGain<M>>,
+>;
+
+/// A visit that has a hand's seat, for an exchange that teaches the hand nothing.
+pub type UnseenVisit<'a> = Visit<
+    'a,
+    Moving<SeatView, Terms>,
+    SeatVisit<(), SeatView, Terms, OneList, Unseen>,
 >;
 
 impl<A: Allocator> Word<A> {
@@ -98,6 +107,25 @@ impl Hand {
         Desk::visit::<EntryGain<FindRow<R>>>(shared, &word.desk, &mut self.badge, tag, place)
     }
 
+    /// Lends the seat for a look at an entry that names no place: if the entry is not set, nothing is logged.
+    /// Callers pass a type parameter of their own for the entry's places.
+    #[inline(always)]
+    pub fn visit_scout<'a, R: EntryAt, A: Allocator>(
+        &mut self,
+        word: &'a Word<A>,
+        tag: &RowTag,
+    ) -> HandVisit<'a, ScoutRow<R>>
+        requires ours { IsHandOf word.now self.old }
+        requires tied { IsEntryTo word.now tag.now.tie }
+        requires places { (R.from ≡ tag.now.from) × (R.n ≡ tag.now.n) }
+        ensures lent { IsLent result.about.table_id result.about.view self.old self.new }
+        ensures visit { (result.tie ≡ tag.now.tie) × (result.brought ≡ None)
+            × (result.made ≡ None) }
+    {
+        let shared = &word.table.shared;
+        Desk::visit::<EntryGain<ScoutRow<R>>>(shared, &word.desk, &mut self.badge, tag, 0)
+    }
+
     /// Lends the seat for an exchange that sets an entry to a block, whose seat goes along.
     #[inline(always)]
     pub fn visit_publish<'a, R: EntryAt, A: Allocator>(
@@ -134,5 +162,41 @@ impl Hand {
         let mut badge = Badge::blank();
         visit.back(&mut badge);
         self.badge = badge;
+    }
+    /// Lends the seat for an exchange like `visit_publish` that teaches the hand nothing.
+    #[inline(always)]
+    pub fn visit_publish_unseen<'a, A: Allocator>(
+        &mut self,
+        word: &'a Word<A>,
+        tag: &RowTag,
+        block: &mut BlockSeat,
+    ) -> UnseenVisit<'a>
+        requires ours { IsHandOf word.now self.old }
+        requires tied { IsEntryTo word.now tag.now.tie }
+        requires past { self.old.of.base ≤ tag.now.from }
+        requires block { (block.old.table_id ≡ word.now.table)
+            × ((first : ℕ) × (block.old.views ≡ block_view first tag.now.n ∷ [])) }
+        ensures lent { IsLent result.about.table_id result.about.view self.old self.new }
+        ensures visit { (result.tie ≡ tag.now.tie) × (result.brought ≡ Some block.old.id)
+            × (result.made ≡ None) }
+        ensures blank { block.new.views ≡ [] }
+    {
+        let shared = &word.table.shared;
+        Desk::publish::<Unseen>(shared, &word.desk, &mut self.badge, block, tag, 0)
+    }
+
+    /// Takes the seat back from such a visit, whose step has run. The hand is then what it was when it lent the
+    /// seat.
+    #[inline(always)]
+    pub fn take_back_unseen<'a>(&mut self, visit: UnseenVisit<'a>)
+        requires made { HasVisited visit.made }
+        requires lent { HasLent visit.about.table_id visit.about.view self.old }
+        ensures same { (hand : HandView)
+            → IsLent visit.entry.about.table_id visit.entry.about.view hand self.old
+            → self.new ≡ hand }
+    {
+        let mut seat = Badge::blank();
+        visit.back(&mut seat);
+        self.badge = seat;
     }
 }

@@ -90,7 +90,7 @@ impl Error for OpenError {}
 /// base.
 pub struct Word<A: Allocator = Global> {
     pub(crate) table: Table<(), SeatView, Terms, OneList, A>,
-    terms: Terms,
+    pub(crate) terms: Terms,
     pub(crate) desk: ClaimDesk,
 }
 
@@ -135,6 +135,8 @@ impl<A: Allocator> Word<A> {
         // Its history begins with broken places.
         ensures filled { IfOk result (λ (word, _). word.filled ≡ []) }
         ensures hand { IfOk result (λ (word, hand). IsNewHand word hand) }
+        // Its hand knows that no place has an entry.
+        ensures laid { IfOk result (λ (_, hand). hand.laid ≡ 0) }
         // The limit is looked at before memory is asked for.
         ensures bad_limit { (result ≡ Err OpenError.BadLimit) ↔ ¬ AreBounds limit base }
     {
@@ -153,6 +155,8 @@ impl<A: Allocator> Word<A> {
         ensures mark { IfOk result (λ (word, _). word.mark ≡ mark.numbers) }
         ensures filled { IfOk result (λ (word, _). word.filled ≡ mark.filled) }
         ensures hand { IfOk result (λ (word, hand). IsNewHand word hand) }
+        // Its hand knows that no place has an entry.
+        ensures laid { IfOk result (λ (_, hand). hand.laid ≡ 0) }
         ensures bad_limit { (result ≡ Err OpenError.BadLimit) ↔ ¬ AreBounds limit base }
     {
         if limit == 0 || limit > MOST_PLACES || base > limit {

@@ -19,3 +19,4 @@ pub mod PopSegment
 pub mod Counted
 pub mod Copying
 pub mod Breaking
+pub mod PlainSegments

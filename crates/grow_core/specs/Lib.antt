@@ -13,6 +13,7 @@ pub mod Making
 pub mod AtLeast
 pub mod Logs
 pub mod Segment
+pub mod Ties
 pub mod Stretch
 pub mod Filled
 pub mod Begun

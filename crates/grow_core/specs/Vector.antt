@@ -13,6 +13,7 @@ use Rattle.table_core.specs.Table.{TableView, table_coded, IsKeyIn, IsBlockOf}
 use Rattle.grow_core.specs.Keys.{KeyRow, mark_of}
 use Rattle.grow_core.specs.Parts.{AreWhole, AreBrokenIn, values_in, filled_in}
 use Rattle.grow_core.specs.Token.{PlacedView, SpoiltView, BegunView, place_in}
+use Rattle.grow_core.specs.Ties.{ArePlainSegments}
 
 -- which vector it is: its claim word, with its limit and its base, and its segments; and the list that it was
 -- opened from, each member a value or broken (`None`)
@@ -53,14 +54,15 @@ pub record BeginsAsOpened {T : Type 0} (vector : VectorView T) : Type 0 where
       → first_at vector.word place ≡ Some broken_cell
 
 -- what holds of a vector at all times: what is known of the list that it was opened from, by the keys of its
--- first segments; the epoch of that list has ended; and the mark of the word and its hands has the layout and
--- the names of the segments, and says whether each member of that list has a value
+-- first segments; the epoch of that list has ended; the mark of the word and its hands has the layout and the
+-- names of the segments, and says whether each member of that list has a value; and no segment is tied
 pub record IsShared {T : Type 0} (word : WordView) (segments : TableView) (keys : KeyRow)
     (known : List (MemberView T)) (ended : Lft) (count : ℕ) : Type 0 where
   pub whole : AreWhole segments.layout segments.names keys known word.base word.limit count
   pub broken : AreBrokenIn ended known
   pub mark : word.mark ≡ mark_of segments
   pub filled : word.filled ≡ filled_in (values_in known)
+  pub plain : ArePlainSegments segments
 
 -- the hand belongs to the vector
 abbrev pub IsHandOf : {T : Type 0} → VectorView T → HandView → Type 0

@@ -13,6 +13,7 @@ use cell_core::block::RunPen;
 impl<T: Drop> Shared<T> {
     // Begins places of the segment from this one on, `left` of them at most: those whose states are in one word, all of
     // them or none.
+    #[tactic(auto, using(crate::proofs::PlainSegments::plain_cells))]
     fn begin_places<'a>(
         &self,
         segment: &Segment<'a, T>,
@@ -27,7 +28,7 @@ impl<T: Drop> Shared<T> {
     {
         let offset = place - segment.from;
         let n = segment.block.longest_run(offset).min(left);
-        segment.block.begin_run(offset, n)
+        segment.block.begin_run_plain(offset, n)
     }
 
     // Fills the first of the places that are begun, and returns the pen of the others, if there are any.

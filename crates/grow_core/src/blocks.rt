@@ -2,20 +2,23 @@
 ghost use Rattle.std.specs.Prelude.{◌≡◌, ◌<◌, ◌≤◌, Some, None, IfSome, IsSome};
 ghost use Rattle.seg_core.specs.Segment.{segment_start, segment_end, segment_count, segment_of, most_segments};
 ghost use Rattle.cell_core.specs.Block.{block_len, IsMemberAt, KeepsOtherCells};
-ghost use Rattle.table_core.specs.Table.{IsBlockOf, KeepsOtherEntries};
+ghost use Rattle.cell_core.specs.Slot.{ArePlain};
+ghost use Rattle.table_core.specs.Table.{IsBlockOf, IsPlainAt, KeepsOtherBonds, KeepsOtherEntries};
 ghost use Rattle.grow_core.specs.Keys.{AreKeys, HasBlock, IsBlockPut, key_at, mark_of};
 ghost use Rattle.grow_core.specs.Token.{place_in};
 ghost use Rattle.grow_core.specs.Parts.{HasFirstKeys, IsBrokenIn};
+ghost use Rattle.grow_core.specs.Ties.{StayPlain};
 
 use crate::keys::{Keys, key_of};
-use cell_core::block::{Block, Epoch, Member};
-use table_core::{Key, Table};
+use crate::ties::{CellBlock, SegmentTable};
+use cell_core::block::{Epoch, Member};
+use table_core::Key;
 
 // The position of a place of the installed segments: its segment, the cell there, and the segment's key. It is always
 // found: a caller that only proves something by it, and tests for it, leaves no instruction.
 #[inline(always)]
 pub(crate) fn find_cell<T>(
-    table: &Table<T>,
+    table: &SegmentTable<T>,
     keys: &Keys,
     count: u32,
     place: u64,
@@ -45,7 +48,12 @@ pub(crate) fn find_cell<T>(
 }
 
 // The same, where it is needed.
-pub(crate) fn cell_of<T>(table: &Table<T>, keys: &Keys, count: u32, place: u64) -> (u32, u64, Key)
+pub(crate) fn cell_of<T>(
+    table: &SegmentTable<T>,
+    keys: &Keys,
+    count: u32,
+    place: u64,
+) -> (u32, u64, Key)
     requires few { count ≤ segment_count table.now.layout }
     requires there { HasFirstKeys keys.now count }
     requires inside { place < segment_start table.now.layout count }
@@ -64,11 +72,11 @@ pub(crate) fn cell_of<T>(table: &Table<T>, keys: &Keys, count: u32, place: u64) 
 
 // Takes the block of a place out of the table. Returns it behind its segment and the place's offset there.
 pub(crate) fn take_block<T: Drop>(
-    table: &mut Table<T>,
+    table: &mut SegmentTable<T>,
     keys: &Keys,
     count: u32,
     place: u64,
-) -> (u32, u64, Box<Block<T>>)
+) -> (u32, u64, Box<CellBlock<T>>)
     requires few { count ≤ segment_count table.old.layout }
     requires there { HasFirstKeys keys.now count }
     requires inside { place < segment_start table.old.layout count }
@@ -79,8 +87,12 @@ pub(crate) fn take_block<T: Drop>(
     ensures within { place < segment_end table.old.layout result.0 }
     ensures block { HasBlock keys.now result.0 result.2.value }
     ensures length { IsBlockOf table.old.layout result.0 result.2.value }
+    ensures plain_cells { IsPlainAt table.old result.0 → ArePlain result.2.value.cells }
     ensures layout { table.new.layout ≡ table.old.layout }
     ensures others { KeepsOtherEntries table.old table.new result.0 }
+    ensures bonds { KeepsOtherBonds table.old table.new result.0 }
+    ensures plain { IsPlainAt table.new result.0 }
+    ensures none_lent { table.new.lent ≡ None }
 {
     let (segment, offset, key) = cell_of(table, keys, count, place);
     (segment, offset, table.detach(&key))
@@ -88,25 +100,30 @@ pub(crate) fn take_block<T: Drop>(
 
 // Puts the block of a segment into the table, and its key into the row.
 pub(crate) fn put_block<T: Drop>(
-    table: &mut Table<T>,
+    table: &mut SegmentTable<T>,
     keys: &mut Keys,
     segment: u32,
-    block: Box<Block<T>>,
+    block: Box<CellBlock<T>>,
 )
     requires within { segment < segment_count table.old.layout }
     requires small { segment < most_segments }
     requires length { IsBlockOf table.old.layout segment block.value }
+    requires plain_cells { ArePlain block.value.cells }
+    requires none_lent { table.old.lent ≡ None }
     ensures put { IsBlockPut table.new segment block.value keys.old keys.new }
     ensures layout { table.new.layout ≡ table.old.layout }
     ensures others { KeepsOtherEntries table.old table.new segment }
+    ensures bonds { KeepsOtherBonds table.old table.new segment }
+    ensures plain { IsPlainAt table.new segment }
 {
-    keys.set(segment, Some(table.attach(segment, block)));
+    keys.set(segment, Some(table.attach_plain(segment, block)));
 }
 
 // Writes a value into the cell, or breaks it. It returns what is then known of the cell, and the value that
 // it held.
+#[tactic(auto, using(crate::proofs::PlainSegments::plain_written))]
 pub(crate) fn write<T>(
-    block: &mut Block<T>,
+    block: &mut CellBlock<T>,
     offset: u64,
     value: Option<T>,
     epoch: &Epoch,
@@ -115,6 +132,7 @@ pub(crate) fn write<T>(
     ensures member { IsMemberAt block.new offset result.0 }
     ensures value { result.0.value ≡ value }
     ensures broken { IsBrokenIn epoch.now result.0 }
+    ensures plain { StayPlain block.old block.new }
     ensures len { block_len block.new ≡ block_len block.old }
     ensures others { KeepsOtherCells block.old block.new offset }
 {

@@ -14,17 +14,18 @@ use crate::keys::{Keys, key_of, keys_again, no_keys};
 use crate::open::Segments;
 use crate::parts::Parts;
 use crate::settle_cells::{Opened, settle_cells};
+use crate::ties::SegmentTable;
 use crate::vector::Shared;
 use cell_core::block::{Epoch, Row};
 use claim_core::Mark;
 use seg_core::Layout;
 use std::alloc::Global;
 use std::marker::Model;
-use table_core::{Key, Table};
+use table_core::Key;
 
 // The key of a segment: that of the opened list, or the hand's, or otherwise one found by a look at the
 // table.
-fn find_key<T>(table: &Table<T>, opened: &Keys, own: &Keys, segment: u32) -> Option<Key>
+fn find_key<T>(table: &SegmentTable<T>, opened: &Keys, own: &Keys, segment: u32) -> Option<Key>
     requires layout { IsLayout table.now.layout }
     requires within { segment < segment_count table.now.layout }
     requires opened { AreKeys (mark_of table.now) opened.now }
@@ -47,7 +48,7 @@ fn find_key<T>(table: &Table<T>, opened: &Keys, own: &Keys, segment: u32) -> Opt
 }
 
 // The keys of the first segments, and how many there are.
-fn first_keys<T>(table: &Table<T>, opened: &Keys, own: &Keys) -> (Keys, u32)
+fn first_keys<T>(table: &SegmentTable<T>, opened: &Keys, own: &Keys) -> (Keys, u32)
     requires opened { AreKeys (mark_of table.now) opened.now }
     requires own { AreKeys (mark_of table.now) own.now }
     ensures named { AreKeys (mark_of table.now) result.0 }
@@ -85,7 +86,7 @@ fn end_in(layout: Layout, segment: u32, size: u64) -> u64
 // A vector whose first `len` places are members of a list already.
 #[derive(Drop)]
 struct Closing<T> {
-    table: Table<T>,
+    table: SegmentTable<T>,
     before: Keys,
     keys: Keys,
     opened: Opened<T>,
@@ -104,6 +105,7 @@ impl<T> Model for Closing<T> {
     ghost use Rattle.std.specs.Prelude.{◌≡◌};
     ghost use Rattle.grow_core.specs.Parts.{broken_count, values_in};
     ghost use Rattle.grow_core.specs.Closing.{ClosingView, closing_coded, IsClosing};
+    ghost use Rattle.grow_core.specs.Ties.{ArePlainSegments};
 
     ghost Value = { ClosingView T };
 
@@ -120,7 +122,7 @@ impl<T> Model for Closing<T> {
 
     ghost invariant = { λ c. IsClosing c.table.layout c.mark.numbers c.before c.table.names c.keys
         c.opened c.row c.epoch c.len c.limit c.count c.size
-        × (c.broken ≡ broken_count (values_in c.row)) };
+        × (c.broken ≡ broken_count (values_in c.row)) × ArePlainSegments c.table };
 }
 
 impl<T: Drop> Closing<T> {
@@ -142,7 +144,7 @@ impl<T: Drop> Closing<T> {
         let alloc = vector.alloc;
         let (word, table, keys, _, row, _) = vector.take_apart();
         let base = word.base();
-        let mark = Mark::of::<Table<T>, Segments>(&table);
+        let mark = Mark::of::<SegmentTable<T>, Segments>(&table);
         let (before, count) = first_keys(&table, &keys, hand.whole_keys());
         let size = word.close(hand.claims);
         Closing {

@@ -176,6 +176,7 @@ impl<T: Drop> Shared<T> {
     // Fills places of the segment with values of the source from this number on, `left` of them at most: a run that
     // begins at this place, or this place alone.
     #[inline(always)]
+    #[tactic(auto, using(crate::proofs::PlainSegments::plain_cells))]
     fn copy_next<S: Source<T>>(
         &self,
         segment: &Segment<'_, T>,
@@ -197,7 +198,7 @@ impl<T: Drop> Shared<T> {
         let key = segment.key.again();
         let offset = place - segment.from;
         let n = segment.block.longest_run(offset).min(left);
-        let Some(pen) = segment.block.begin_run(offset, n) else {
+        let Some(pen) = segment.block.begin_run_plain(offset, n) else {
             return self.fill_alone(segment, place, source.value(first));
         };
         let row = publish_from(pen, n, first, source);

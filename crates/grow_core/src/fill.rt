@@ -3,6 +3,7 @@ ghost use Rattle.std.specs.Prelude.{◌≡◌, ◌+◌, ◌<◌, ◌≤◌, [], 
 ghost use Rattle.std.specs.Vec.Iter.{into_iter_len};
 ghost use Rattle.claim_core.specs.Hand.{OwnsPlace};
 ghost use Rattle.cell_core.specs.Block.{block_len};
+ghost use Rattle.cell_core.specs.Slot.{ArePlain};
 ghost use Rattle.cell_core.specs.Shown.{IsFoundIn, IsNotEmpty};
 ghost use Rattle.table_core.specs.Table.{IsKeyIn, IsBlockOf};
 ghost use Rattle.grow_core.specs.Token.{place_in};
@@ -13,17 +14,17 @@ ghost use Rattle.grow_core.specs.Stretch.{IsCounted, IsStretchOf, Takes};
 
 use crate::hand::Hand;
 use crate::stretch::{Stretch, publish};
+use crate::ties::CellBlock;
 use crate::token::{BegunPlace, Found, Placed, Spoilt};
 use crate::vector::Shared;
 use cell_core::block;
-use cell_core::block::Block;
 use std::vec::IntoIter;
 use table_core::Key;
 
 // A segment of the vector: its block with its key, its first place, and the place after its last.
 #[derive(Drop)]
 pub(crate) struct Segment<'a, T> {
-    pub(crate) block: &'a Block<T>,
+    pub(crate) block: &'a CellBlock<T>,
     pub(crate) key: Key,
     pub(crate) from: u64,
     pub(crate) end: u64,
@@ -104,6 +105,7 @@ impl<T: Drop> Shared<T> {
     // Fills places of the segment with the next values: a run that begins at this place, or this place alone. Returns
     // the values that are left.
     #[inline(always)]
+    #[tactic(auto, using(crate::proofs::PlainSegments::plain_cells))]
     pub(crate) fn fill_next(
         &self,
         segment: &Segment<'_, T>,
@@ -122,7 +124,7 @@ impl<T: Drop> Shared<T> {
         let key = segment.key.again();
         let offset = place - segment.from;
         let n = segment.block.longest_run(offset).min(values.len() as u64);
-        let Some(pen) = segment.block.begin_run(offset, n) else {
+        let Some(pen) = segment.block.begin_run_plain(offset, n) else {
             let mut rest = values;
             let Some(value) = rest.next() else {
                 unreachable!()
@@ -158,7 +160,7 @@ impl<T: Drop> Shared<T> {
     }
 
     // Breaks a place of the segment.
-    #[tactic(auto, using(crate::proofs::Cells::small_cell))]
+    #[tactic(auto, using(crate::proofs::Cells::small_cell, crate::proofs::PlainSegments::plain_cell))]
     pub(crate) fn break_place(
         &self,
         segment: &Segment<'_, T>,
@@ -173,7 +175,7 @@ impl<T: Drop> Shared<T> {
     {
         let key = segment.key.again();
         let offset = place - segment.from;
-        match segment.block.begin(offset) {
+        match segment.block.begin_plain(offset) {
             Ok(pen) => Ok(Spoilt {
                 key,
                 cell: pen.spoil(),
@@ -184,10 +186,10 @@ impl<T: Drop> Shared<T> {
 
     // Fills a cell of the segment that has this key with the value.
     #[inline(always)]
-    #[tactic(auto, using(crate::proofs::Cells::small_cell))]
+    #[tactic(auto, using(crate::proofs::Cells::small_cell, crate::proofs::PlainSegments::plain_cell))]
     pub(crate) fn fill_cell(
         &self,
-        block: &Block<T>,
+        block: &CellBlock<T>,
         key: Key,
         offset: u64,
         value: T,
@@ -196,6 +198,7 @@ impl<T: Drop> Shared<T> {
         requires block { block.now ≡ key.block }
         requires long { IsBlockOf (layout_of self.now) key.segment key.block }
         requires within { offset < block_len block.now }
+        requires plain { ArePlain block.now.cells }
         ensures token { IfOk result (IsPlacedOf self.now) }
         ensures here { IfOk result
             (λ placed. placed.place ≡ place_in (layout_of self.now) key.segment offset) }
@@ -203,7 +206,7 @@ impl<T: Drop> Shared<T> {
         ensures found { IfErr result
             (IsFoundAt self.now (place_in (layout_of self.now) key.segment offset)) }
     {
-        match block.begin(offset) {
+        match block.begin_plain(offset) {
             Ok(pen) => Ok(Placed {
                 key,
                 cell: pen.fill(value),

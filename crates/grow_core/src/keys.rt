@@ -2,12 +2,14 @@
 ghost use Rattle.std.specs.Prelude.{◌≡◌, ◌≤◌, ◌<◌, ◌+◌, ℕ, List, IfOk, IsSome, None, slice_set};
 ghost use Rattle.seg_core.specs.Segment.{IsLayout, most_places, segment_count, most_segments};
 ghost use Rattle.grow_core.specs.Keys.{IsKeyAt, AreKeys, KeepsKeys, HasKeysOfRun, key_at, mark_of};
+ghost use Rattle.grow_core.specs.Ties.{ArePlainSegments};
 
+use crate::ties::SegmentTable;
 use seg_core::MOST_SEGMENTS;
 use std::alloc::AllocError;
 use std::array;
 use std::marker::Model;
-use table_core::{Key, Table};
+use table_core::Key;
 
 // An optional key per segment, with room for the segments of every layout.
 pub(crate) struct Keys {
@@ -125,12 +127,13 @@ pub(crate) fn put_keys(row: &mut Keys, other: &Keys)
 // The key of the segment, which is then in the row. If it is not there yet, the segment is installed first.
 #[inline(always)]
 pub(crate) fn key_for<T: Drop>(
-    table: &Table<T>,
+    table: &SegmentTable<T>,
     keys: &mut Keys,
     segment: u32,
 ) -> Result<Key, AllocError>
     requires layout { IsLayout table.now.layout }
     requires within { segment < segment_count table.now.layout }
+    requires plain { ArePlainSegments table.now }
     requires keys { AreKeys (mark_of table.now) keys.old }
     ensures keys { AreKeys (mark_of table.now) keys.new }
     ensures kept { KeepsKeys keys.old keys.new }
@@ -145,9 +148,14 @@ pub(crate) fn key_for<T: Drop>(
 
 // Installs the segment unless it is there, and puts its key into the row.
 #[cold]
-fn install_one<T: Drop>(table: &Table<T>, keys: &mut Keys, segment: u32) -> Result<Key, AllocError>
+fn install_one<T: Drop>(
+    table: &SegmentTable<T>,
+    keys: &mut Keys,
+    segment: u32,
+) -> Result<Key, AllocError>
     requires layout { IsLayout table.now.layout }
     requires within { segment < segment_count table.now.layout }
+    requires plain { ArePlainSegments table.now }
     requires keys { AreKeys (mark_of table.now) keys.old }
     ensures keys { AreKeys (mark_of table.now) keys.new }
     ensures kept { KeepsKeys keys.old keys.new }
@@ -161,13 +169,14 @@ fn install_one<T: Drop>(table: &Table<T>, keys: &mut Keys, segment: u32) -> Resu
 
 // Installs the segments of a run unless they are there, and puts their keys into the row.
 pub(crate) fn install<T: Drop>(
-    table: &Table<T>,
+    table: &SegmentTable<T>,
     keys: &mut Keys,
     from: u64,
     n: u64,
 ) -> Result<(), AllocError>
     requires some { 0 < n }
     requires places { from + n ≤ most_places }
+    requires plain { ArePlainSegments table.now }
     requires keys { AreKeys (mark_of table.now) keys.old }
     ensures keys { AreKeys (mark_of table.now) keys.new }
     ensures kept { KeepsKeys keys.old keys.new }

@@ -53,6 +53,7 @@ mod slices;
 mod source;
 mod split_and_join;
 mod stretch;
+mod ties;
 mod token;
 mod vector;
 

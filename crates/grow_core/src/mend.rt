@@ -77,6 +77,7 @@ impl<T> Shared<T> {
     }
 
     // The same of a place of the opened list. One that is broken there was broken in an epoch that has ended.
+    #[tactic(auto, using(crate::proofs::PlainSegments::plain_cell))]
     fn take_opened(&self, place: u64) -> Result<(Key, Pen<'_, T>), MendError<T>>
         requires { place < base_of self.now }
         ensures taken { IfOk result (IsTakenAt self.now.segments place) }
@@ -85,13 +86,14 @@ impl<T> Shared<T> {
     {
         let (_, offset, key) = cell_of(&self.table, &self.keys, self.count, place);
         let block = self.table.known(&key);
-        match block.mend_member(offset, &self.row.at(place), &self.ended) {
+        match block.mend_member_plain(offset, &self.row.at(place), &self.ended) {
             Ok(pen) => Ok((key, pen)),
             Err(found) => Err(self.unmended(key, offset, found)),
         }
     }
 
     // The same of a place that was claimed, or not even that. Nothing is there yet if its segment is not.
+    #[tactic(auto, using(crate::proofs::PlainSegments::plain_cell))]
     fn take_claimed(&self, place: u64) -> Result<(Key, Pen<'_, T>), MendError<T>>
         requires { place < limit_of self.now }
         ensures taken { IfOk result (IsTakenAt self.now.segments place) }
@@ -103,7 +105,7 @@ impl<T> Shared<T> {
         let Some((block, key)) = self.table.scout_key(segment) else {
             return Err(MendError::Pending);
         };
-        match block.mend(offset) {
+        match block.mend_plain(offset) {
             Ok(pen) => Ok((key, pen)),
             Err(found) => Err(self.unmended(key, offset, found)),
         }

@@ -7,15 +7,15 @@ ghost use Rattle.grow_core.specs.Vector.{limit_of, layout_of, base_of};
 
 use crate::hand::Hand;
 use crate::parts::Parts;
+use crate::ties::SegmentTable;
 use crate::vector::Shared;
 use cell_core::block::Row;
 use claim_core::{Mark, Marks, OpenError, Word};
-use table_core::Table;
 
 // A vector's word is marked with the layout and the names of its segments.
 pub(crate) struct Segments;
 
-impl<T> Marks<Table<T>> for Segments {
+impl<T> Marks<SegmentTable<T>> for Segments {
     ghost use Rattle.grow_core.specs.Keys.{mark_of};
 
     ghost numbers = { λ table. mark_of table };
@@ -49,11 +49,11 @@ impl Marks<TwoMarks> for Opening {
 }
 
 // The mark of a vector with these segments that is opened on a list of these members.
-fn opening_mark<T>(table: &Table<T>, row: &Row<T>) -> Mark
+fn opening_mark<T>(table: &SegmentTable<T>, row: &Row<T>) -> Mark
     ensures segments { result.numbers ≡ mark_of table.now }
     ensures values { result.filled ≡ filled_in (values_in row.now) }
 {
-    let segments = Mark::of::<Table<T>, Segments>(table);
+    let segments = Mark::of::<SegmentTable<T>, Segments>(table);
     let list = Mark::of::<Row<T>, ListValues>(row);
     Mark::of::<TwoMarks, Opening>(&TwoMarks { segments, list })
 }

@@ -7,6 +7,7 @@ ghost use Rattle.grow_core.specs.Slices.{HasBroken};
 
 use crate::blocks::{cell_of, put_block, take_block, write};
 use crate::keys::{Keys, no_keys};
+use crate::ties::SegmentTable;
 use cell_core::block::{Epoch, Row};
 use claim_core::Mark;
 use seg_core::Layout;
@@ -19,7 +20,7 @@ use table_core::Table;
 /// its segments.
 #[derive(Drop)]
 pub struct Parts<T> {
-    pub(crate) table: Table<T>,
+    pub(crate) table: SegmentTable<T>,
     pub(crate) keys: Keys,
     pub(crate) row: Row<T>,
     // As long as it lasts, the broken members stay broken.
@@ -40,6 +41,7 @@ impl<T> Model for Parts<T> {
     ghost use Rattle.std.specs.Prelude.{◌≡◌, option_map};
     ghost use Rattle.grow_core.specs.Parts.{PartsView, parts_coded, broken_count, values_in, AreWhole, AreBrokenIn};
     ghost use Rattle.grow_core.specs.Closing.{IsKept};
+    ghost use Rattle.grow_core.specs.Ties.{ArePlainSegments};
 
     ghost Value = { PartsView T };
 
@@ -56,7 +58,8 @@ impl<T> Model for Parts<T> {
     ghost invariant = { λ p. AreWhole p.table.layout p.table.names p.keys p.row p.len p.limit
         p.count
         × IsKept p.table.layout (option_map (λ m. m.numbers) p.closed) p.before p.table.names p.keys p.row p.count
-        × AreBrokenIn p.epoch p.row × (p.broken ≡ broken_count (values_in p.row)) };
+        × AreBrokenIn p.epoch p.row × (p.broken ≡ broken_count (values_in p.row))
+        × ArePlainSegments p.table };
 }
 
 // Counts a member: 1 if it is broken, otherwise 0.
@@ -92,7 +95,7 @@ impl<T> Parts<T> {
         // For the proof: its f is that of a layout.
         let _f = layout.f();
         Parts {
-            table: Table::new_in(alloc, layout),
+            table: Table::new_for(alloc, layout),
             keys: no_keys(),
             row: Row::new(),
             epoch: Epoch::new(),
@@ -280,6 +283,7 @@ impl<T: Drop> Parts<T> {
     }
 
     /// Moves the last member out, or returns `None` if it was broken. It takes no memory.
+    #[tactic(auto, using(crate::proofs::PlainSegments::plain_written, crate::proofs::PlainSegments::plain_renewed))]
     pub fn pop(&mut self) -> Option<T>
         requires { 0 < length self.old.members }
         ensures member { self.old.members ≡ self.new.members ++ result ∷ [] }
@@ -303,6 +307,7 @@ impl<T: Drop> Parts<T> {
 
     /// Replaces the member at the place by a value or, with `None`, breaks it, and returns the value that was
     /// there, or `None` if it was broken. It takes no memory.
+    #[tactic(auto, using(crate::proofs::PlainSegments::plain_written, crate::proofs::PlainSegments::plain_renewed))]
     pub fn replace(&mut self, place: u64, value: Option<T>) -> Option<T>
         requires { place < length self.old.members }
         ensures members { self.new.members ≡ slice_set self.old.members place value }

@@ -7,12 +7,13 @@ ghost use Rattle.grow_core.specs.PopSegment.{IsFilled, IsUnbroken, MovesLast, Po
 
 use crate::blocks::take_block;
 use crate::parts::Parts;
-use cell_core::block::{Block, Row};
+use crate::ties::CellBlock;
+use cell_core::block::Row;
 
 // Moves out the values of the last `n` members of a row, last one first, to the end of a list that has room for them.
 // They are those of the first cells of the block.
 fn pop_values<T: Drop>(
-    block: &mut Block<T>,
+    block: &mut CellBlock<T>,
     n: u64,
     row: &mut Row<T>,
     len: u64,

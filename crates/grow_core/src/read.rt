@@ -222,7 +222,7 @@ impl<T> Shared<T> {
         let Some((block, key)) = self.table.scout_key(segment) else {
             return Shown::Pending;
         };
-        match block.look(offset) {
+        match block.look_alone(offset) {
             Look::Empty | Look::Busy => Shown::Pending,
             Look::Filled(value, cell) => Shown::Filled(At {
                 value,

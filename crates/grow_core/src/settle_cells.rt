@@ -5,13 +5,16 @@ ghost use Rattle.cell_core.specs.Block.{block_len, cell_at, AreFilledFrom, IsMem
 ghost use Rattle.cell_core.specs.Member.{MemberView};
 ghost use Rattle.grow_core.specs.Parts.{IsBrokenIn, broken_count, one_if_broken, values_in};
 ghost use Rattle.grow_core.specs.Closing.{AreSettled, KeepsKnown, KeepsKnownFrom};
+ghost use Rattle.grow_core.specs.Ties.{StayPlain};
 
-use cell_core::block::{Block, Epoch, Member, Placed, Row};
+use crate::ties::CellBlock;
+use cell_core::block::{Epoch, Member, Placed, Row};
 use std::marker::Model;
 
 // What is known of the cell from now on: without a value it is broken, and a known value stays.
+#[tactic(auto, using(crate::proofs::PlainSegments::plain_written, crate::proofs::PlainSegments::plain_settled))]
 fn settle<T>(
-    block: &mut Block<T>,
+    block: &mut CellBlock<T>,
     offset: u64,
     known: &Option<Member<T>>,
     epoch: &Epoch,
@@ -22,6 +25,7 @@ fn settle<T>(
     ensures name { result.name ≡ (cell_at block.old offset).value_name }
     ensures kept { IfSome known.now (λ k. k.value ≢ None → result.value ≡ k.value) }
     ensures broken { IsBrokenIn epoch.now result }
+    ensures plain { StayPlain block.old block.new }
     ensures len { block_len block.new ≡ block_len block.old }
     ensures others { KeepsOtherCells block.old block.new offset }
 {
@@ -32,7 +36,7 @@ fn settle<T>(
 }
 
 // Counts a cell by what is known of it: 1 if it is broken, otherwise 0. It loads the cell's state.
-fn count_broken<T>(block: &Block<T>, offset: u64, member: &Member<T>, epoch: &Epoch) -> u64
+fn count_broken<T>(block: &CellBlock<T>, offset: u64, member: &Member<T>, epoch: &Epoch) -> u64
     requires member { IsMemberAt block.now offset member.now }
     requires broken { IsBrokenIn epoch.now member.now }
     ensures { result ≡ one_if_broken member.now.value }
@@ -90,7 +94,7 @@ impl<T> Opened<T> {
     }
 
     // Shows the same of cells next to each other that were found filled. They are the places from `place` on.
-    fn agree_all(&self, place: u64, block: &Block<T>, offset: u64, found: &Row<T>, n: u64)
+    fn agree_all(&self, place: u64, block: &CellBlock<T>, offset: u64, found: &Row<T>, n: u64)
         requires places { place + n ≤ most_places }
         requires filled { AreFilledFrom block.now offset found.now }
         requires n { length found.now ≡ n }
@@ -117,7 +121,7 @@ struct Counts {
 // They are the places of the vector from `place` on. Adds to the row what is known of each from now on, and counts
 // them. It loads each word of states of the filled cells once.
 fn settle_stretch<T>(
-    block: &mut Block<T>,
+    block: &mut CellBlock<T>,
     offset: u64,
     opened: &Opened<T>,
     place: u64,
@@ -138,6 +142,7 @@ fn settle_stretch<T>(
     ensures broken { broken_count (values_in row.new)
         ≡ broken_count (values_in row.old) + result.broken }
     ensures few { result.broken ≤ result.settled }
+    ensures plain { StayPlain block.old block.new }
 {
     let (count, found) = block.filled_row(offset, n);
     opened.agree_all(place, block, offset, &found, count);
@@ -160,7 +165,7 @@ fn settle_stretch<T>(
 // Settles n cells of a block from an offset on. They are the places of the vector from `place` on. Adds to the
 // row what is known of each from now on, and returns how many of them are broken.
 pub(crate) fn settle_cells<T>(
-    block: &mut Block<T>,
+    block: &mut CellBlock<T>,
     offset: u64,
     opened: &Opened<T>,
     place: u64,
@@ -177,6 +182,7 @@ pub(crate) fn settle_cells<T>(
         block.old block.new offset opened.now place row.old row.new epoch.now n }
     ensures broken { broken_count (values_in row.new)
         ≡ broken_count (values_in row.old) + result }
+    ensures plain { StayPlain block.old block.new }
 {
     let mut done = 0;
     let mut broken = 0;

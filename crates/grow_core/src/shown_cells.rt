@@ -14,8 +14,9 @@ ghost use Rattle.grow_core.specs.Vector.{IsOpenedAt, base_of, limit_of, layout_o
 use crate::blocks::find_cell;
 use crate::published::Published;
 use crate::read::Shown;
+use crate::ties::CellBlock;
 use crate::vector::Shared;
-use cell_core::block::{Block, Row};
+use cell_core::block::Row;
 use seg_core::laws::places;
 use std::iter::FusedIterator;
 use std::marker::Model;
@@ -170,7 +171,7 @@ impl<T> Shared<T> {
     // instruction in its callers.
     fn opened_cells_agree(
         &self,
-        block: &Block<T>,
+        block: &CellBlock<T>,
         key: &Key,
         offset: u64,
         place: u64,

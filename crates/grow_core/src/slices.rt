@@ -8,12 +8,13 @@ ghost use Rattle.grow_core.specs.Slices.{HasBroken, IsInOneSegment, IsToTheEnd};
 
 use crate::blocks::cell_of;
 use crate::parts::Parts;
-use cell_core::block::{Block, Epoch, Row};
+use crate::ties::CellBlock;
+use cell_core::block::{Epoch, Row};
 
 // Tests whether one of `n` members from a place on is broken: those of the cells of a block from an offset on. It looks
 // at none if no member of the row is broken, and otherwise at each up to the first that is.
 fn has_broken<T>(
-    block: &Block<T>,
+    block: &CellBlock<T>,
     offset: u64,
     row: &Row<T>,
     place: u64,

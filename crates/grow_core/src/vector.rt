@@ -8,19 +8,19 @@ ghost use Rattle.grow_core.specs.Vector.{IsHandOf, IsShared, BeginsAsOpened, lim
 
 use crate::hand::Hand;
 use crate::keys::Keys;
+use crate::ties::SegmentTable;
 use cell_core::block::{EndedEpoch, Row};
 use claim_core::{Word, laws};
 use seg_core::Layout;
 use std::alloc::Global;
 use std::fmt;
 use std::marker::Model;
-use table_core::Table;
 
 /// A vector that many callers share. Contracts see which vector it is, its limit and its base, and the list
 /// that it was opened on.
 pub struct Shared<T> {
     pub(crate) word: Word<Global>,
-    pub(crate) table: Table<T>,
+    pub(crate) table: SegmentTable<T>,
     // What is known of the opened list: the keys of its first `count` segments, and its members.
     pub(crate) keys: Keys,
     pub(crate) count: u32,
@@ -60,7 +60,7 @@ impl<T: Drop> Drop for Shared<T> {
 
 impl<T> Shared<T> {
     // Takes the vector apart: its word, its segments, and what is known of the opened list.
-    pub(crate) fn take_apart(self) -> (Word<Global>, Table<T>, Keys, u32, Row<T>, EndedEpoch)
+    pub(crate) fn take_apart(self) -> (Word<Global>, SegmentTable<T>, Keys, u32, Row<T>, EndedEpoch)
         ensures parts { self ≡ record {
           word = result.0;
           segments = result.1;

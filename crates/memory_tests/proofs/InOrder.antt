@@ -8,6 +8,7 @@ use lib.ListN.{get_elem?}
 use Rattle.atomic_table.specs.Table.{State}
 use Rattle.atomic_table.proofs.Lists.{at_set, set_again}
 use Rattle.tie_core.specs.Tie.{Stage, Idle, Begun, Mending, Filled, Broken, stage_number, Made, IsHeld, begins, fills}
+use Rattle.tie_core.specs.Desk.{IsBack}
 use Rattle.tie_core.specs.Permits.{PermitsRow}
 use Rattle.tie_core.specs.Run.{PermitsRun, IsBackWith}
 use Rattle.memory_tests.specs.InOrder.{idle_from, AreInOrder}
@@ -115,6 +116,10 @@ fills_in_order id v k n = record {
 }
 
 -- a badge that is given back has one view
+pub one_view : (then : Stage → Stage → ℕ → Type 0) (made : Option Made) (views : List ℕ) → IsBack then made views → (u : ℕ) × (views ≡ u ∷ [])
+one_view then None views is = absurd is
+one_view then (Some m) views is = (is.0, is.1)
+
 pub one_back : (then : List Made → ℕ → Type 0) (made : Option (List Made)) (views : List ℕ) → IsBackWith then made views → (u : ℕ) × (views ≡ u ∷ [])
 one_back then None views is = absurd is
 one_back then (Some ms) views is = (is.0, is.1)

@@ -2,3 +2,4 @@ mod KeyRows
 mod StepsInARow
 mod InOrder
 mod OffersInARow
+mod RunsOffered

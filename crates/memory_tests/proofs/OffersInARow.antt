@@ -1,20 +1,25 @@
 -- Steps of a hand on a tied cell, by what it gains at each.
-use Rattle.std.proofs.Common.{◌≡◌, ℕ, Option, Some, None, List, [], ◌∷◌, refl, ap, sym, ◌∙◌, subst, inl, inr, arith}
+use Rattle.std.proofs.Common.{◌≡◌, ◌≢◌, ℕ, Option, Some, None, List, [], ◌∷◌, refl, ap, sym, ◌∙◌, subst, arith}
+use Rattle.std.specs.Prelude.{Result, Ok, Err, IfOk, IfErr}
 use Rattle.atomic_table.specs.Seated.{TableId}
-use Rattle.tie_core.specs.Tie.{Stage, Idle, Begun, Mending, Filled, Broken, Made, Step, IsHeld, IsMade, HasMade, fills}
+use Rattle.tie_core.specs.Tie.{Stage, Idle, Begun, Mending, Filled, Broken, Made, Step, Shows, IsMade, HasMade, mends}
+use Rattle.cell_core.specs.declared.block.shown.Found.{Found}
+use Rattle.cell_core.specs.declared.block.shown.Found.TheVariants as found
+use Rattle.cell_core.specs.Shown.{IsFoundOf, IsNotBroken}
+use Rattle.claim_core.specs.declared.role.CellStage.TheVariants as stages
 use Rattle.claim_core.specs.declared.role.RowAt.{RowAt}
 use Rattle.claim_core.specs.declared.seat_view.SeatView.{SeatView}
 use Rattle.claim_core.specs.Lengths.{InRun}
-use Rattle.claim_core.specs.History.{fill_event}
+use Rattle.claim_core.specs.History.{AddsEvents, fill_event, mend_event}
 use Rattle.claim_core.specs.Laws.{RunsAreApart, EventsFollow}
 use Rattle.claim_core.specs.Word.{WordView}
 use Rattle.claim_core.specs.Hand.{HandView, OwnsPlace, seen_size}
 use Rattle.claim_core.specs.Lent.{lent_hand, seat_hand}
 use Rattle.claim_core.specs.Gain.{Gain, Gains, GainsBy, IsLent, HasSeenPlace, an_event, a_begin}
-use Rattle.claim_core.specs.Plays.{cell_stage, look_gains, begin_gains, fill_gains}
-use Rattle.claim_core.specs.SeatSteps.{writer_of, IsHeldAt}
+use Rattle.claim_core.specs.Plays.{cell_stage, look_gains, begin_gains, fill_gains, mend_gains}
+use Rattle.claim_core.specs.SeatSteps.{look_event, try_event}
 use Rattle.claim_core.specs.Ties.{Finds}
-use Rattle.memory_tests.specs.Offers.{HasLooked, HasFilled}
+use Rattle.memory_tests.specs.Offers.{HasLooked, HasFilled, HasTried, found_stage}
 
 -- an update that a step has run is made
 pub is_made : (step : Step) (n : ℕ) (made : Option Made) → HasMade step n made → IsMade made
@@ -55,48 +60,95 @@ module _ (place : ℕ) (old mid : HandView) (first : Gains (a_begin place) old m
         (subst (λ (w : WordView). InRun w.base old.seen (owns.0) place) (sym first.of) (owns.2)),
   )
 
-held_at : (a : Stage) → IsHeld a → IsHeldAt (cell_stage a)
-held_at Idle held = absurd held
-held_at Begun held = inl refl
-held_at Mending held = inr refl
-held_at Filled held = absurd held
-held_at Broken held = absurd held
-
 -- after the fill
-filled_at : RunsAreApart → EventsFollow → (place floor n : ℕ) (table : TableId) (v : SeatView) (made : Option Made) (old mid new : HandView)
-    → OwnsPlace old place → Gains (a_begin place) old mid → seat_hand floor table v ≡ mid → HasMade fills n made
-    → GainsBy (fill_gains place v) made mid new → HasFilled place old new
-filled_at apart follow place floor n table v None old mid new owns first is has gains = absurd has
-filled_at apart follow place floor n table v (Some m) old mid new owns first is has gains =
+filled_at : RunsAreApart → EventsFollow → (place floor : ℕ) (table : TableId) (v : SeatView) (old mid new : HandView)
+    → OwnsPlace old place → Gains (a_begin place) old mid → seat_hand floor table v ≡ mid
+    → GainsBy (fill_gains place v) (Some (Begun, Filled)) mid new → HasFilled place old new
+filled_at apart follow place floor table v old mid new owns first is gains =
     let told = gains.1 in
-    let same : v.limit ≡ old.of.limit = ap (λ (h : HandView). h.of.limit) is ∙ ap (λ (w : WordView). w.limit) first.of in
     let start : v.base ≡ old.of.base = ap (λ (h : HandView). h.of.base) is ∙ ap (λ (w : WordView). w.base) first.of in
     let seen : v.seen ≡ old.seen = ap (λ (h : HandView). h.seen) is ∙ first.seen in
     let in_run : InRun old.of.base old.seen (told.0) place =
     subst (λ (l : List ℕ). InRun old.of.base l (told.0) place) seen (subst (λ (b : ℕ). InRun b v.seen (told.0) place) start (told.1)) in
     let index : told.0 ≡ owns.0 = apart old.of.base old.seen (told.0) (owns.0) place in_run (owns.2) in
-    let a = cell_stage m.0 in
-    let gain_is : gains.0 ≡ an_event (fill_event (writer_of old.of.limit (owns.0) place a) place) =
-    told.2
-    ∙ (ap (λ (l : ℕ). an_event (fill_event (writer_of l (told.0) place a) place)) same
-    ∙ ap (λ (i : ℕ). an_event (fill_event (writer_of old.of.limit i place a) place)) index) in
+    let gain_is : gains.0 ≡ an_event (fill_event (owns.0) place) = told.2 ∙ ap (λ (i : ℕ). an_event (fill_event i place)) index in
     let second = subst (λ (g : Gain). Gains g mid new) gain_is (gains.2) in
     record {
       index = owns.0;
       owned = owns.1;
       in_run = owns.2;
-      stage = a;
-      held = held_at (m.0) (has.0.1);
-      log = follow old.log mid.log new.log [] (fill_event (writer_of old.of.limit (owns.0) place a) place ∷ []) first.log second.log;
+      log = follow old.log mid.log new.log [] (fill_event (owns.0) place ∷ []) first.log second.log;
       begun = second.begun ∙ first.begun;
     }
 
-pub filled : RunsAreApart → EventsFollow → (told place floor n : ℕ) (table : TableId) (v : SeatView) (made : Option Made) (old mid new : HandView)
-    → OwnsPlace old place → Gains (a_begin place) old mid → seat_hand floor table v ≡ mid → HasMade fills n made → told ≡ place
+pub filled : RunsAreApart → EventsFollow → (told place floor : ℕ) (table : TableId) (v : SeatView) (made : Option Made) (old mid new : HandView)
+    → OwnsPlace old place → Gains (a_begin place) old mid → seat_hand floor table v ≡ mid → made ≡ Some (Begun, Filled) → told ≡ place
     → GainsBy (fill_gains told v) made mid new → HasFilled place old new
-filled apart follow told place floor n table v made old mid new owns first seat has is gains =
-    filled_at apart follow place floor n table v made old mid new owns first seat has
-    (subst (λ (p : ℕ). GainsBy (fill_gains p v) made mid new) is gains)
+filled apart follow told place floor table v made old mid new owns first seat has is gains =
+    filled_at apart follow place floor table v old mid new owns first seat
+    (subst (λ (u : ℕ × Option Made). GainsBy (fill_gains u.0 v) u.1 mid new) (λ i. (is i, has i)) gains)
+
+-- a try to mend has run its update
+pub tried_made : {P T : Type 0} (made : Option Made) (result : Result P (Found T)) → IfOk result (λ _. HasMade mends 5 made)
+    → IfErr result (λ it. (n : ℕ) × HasMade mends n made × (n ≢ 5) × IsFoundOf n it) → IsMade made
+tried_made made (Ok pen) won lost = is_made mends 5 made won
+tried_made made (Err it) won lost = is_made mends (lost.0) made (lost.1)
+
+broken_at_five : (a : Stage) → Shows a 5 → a ≡ Broken
+broken_at_five Idle shows = absurd (let z : 5 ≡ 0 = shows in omega (arith, z))
+broken_at_five Begun shows = absurd (let z : 5 ≡ 0 = shows in omega (arith, z))
+broken_at_five Mending shows = absurd (let z : 5 ≡ 1 = shows in omega (arith, z))
+broken_at_five Filled shows = absurd (let z : 5 ≡ 3 = shows in omega (arith, z))
+broken_at_five Broken shows = refl
+
+-- one that leaves the stage shows what a look shows
+try_is_look : (limit place : ℕ) (a b : Stage) → b ≡ a → try_event limit place (cell_stage a) (cell_stage b) ≡ look_event place (cell_stage a)
+try_is_look limit place Idle b is = refl
+try_is_look limit place Begun b is = refl
+try_is_look limit place Mending b is = refl
+try_is_look limit place Filled b is = refl
+try_is_look limit place Broken b is = ap (λ (s : Stage). try_event limit place stages.Broken (cell_stage s)) is
+
+look_is_found : {T : Type 0} (place n : ℕ) (a : Stage) (it : Found T) → Shows a n → IsFoundOf n it → look_event place (cell_stage a) ≡ look_event place (found_stage it)
+look_is_found place n Idle found.Empty shows of = refl
+look_is_found place n Idle (found.Busy begun) shows of = absurd (omega (arith, shows, of))
+look_is_found place n Idle (found.Filled placed) shows of = absurd (omega (arith, shows, of))
+look_is_found place n Idle (found.Broken spoilt) shows of = absurd (omega (arith, shows, of.0))
+look_is_found place n Begun found.Empty shows of = refl
+look_is_found place n Begun (found.Busy begun) shows of = absurd (omega (arith, shows, of))
+look_is_found place n Begun (found.Filled placed) shows of = absurd (omega (arith, shows, of))
+look_is_found place n Begun (found.Broken spoilt) shows of = absurd (omega (arith, shows, of.0))
+look_is_found place n Mending found.Empty shows of = absurd (omega (arith, shows, of))
+look_is_found place n Mending (found.Busy begun) shows of = refl
+look_is_found place n Mending (found.Filled placed) shows of = absurd (omega (arith, shows, of))
+look_is_found place n Mending (found.Broken spoilt) shows of = absurd (omega (arith, shows, of.0))
+look_is_found place n Filled found.Empty shows of = absurd (omega (arith, shows, of))
+look_is_found place n Filled (found.Busy begun) shows of = absurd (omega (arith, shows, of))
+look_is_found place n Filled (found.Filled placed) shows of = refl
+look_is_found place n Filled (found.Broken spoilt) shows of = absurd (of.1 shows)
+look_is_found place n Broken found.Empty shows of = absurd (omega (arith, shows, of))
+look_is_found place n Broken (found.Busy begun) shows of = absurd (omega (arith, shows, of))
+look_is_found place n Broken (found.Filled placed) shows of = absurd (omega (arith, shows, of))
+look_is_found place n Broken (found.Broken spoilt) shows of = refl
+
+-- after a try to mend
+pub tried : {P T : Type 0} (told place floor : ℕ) (table : TableId) (v : SeatView) (made : Option Made) (old new : HandView) (result : Result P (Found T))
+    → told ≡ place → seat_hand floor table v ≡ old → IfOk result (λ _. HasMade mends 5 made)
+    → IfErr result (λ it. (n : ℕ) × HasMade mends n made × (n ≢ 5) × IsFoundOf n it) → IfErr result IsNotBroken
+    → GainsBy (mend_gains told v) made old new → HasTried place old new result
+tried told place floor table v None old new result is seat won lost whole gains = absurd gains
+tried told place floor table v (Some m) old new (Ok pen) is seat won lost whole gains =
+    let from : m.0 ≡ Broken = broken_at_five (m.0) (won.0.0) in let to : m.1 ≡ Mending = won.0.1 refl in
+    let limit : v.limit ≡ old.of.limit = ap (λ (h : HandView). h.of.limit) seat in
+    let event : try_event v.limit told (cell_stage (m.0)) (cell_stage (m.1)) ≡ mend_event old.of.limit place =
+    λ i. try_event (limit i) (is i) (cell_stage (from i)) (cell_stage (to i)) in
+    subst (λ e. AddsEvents old.log (e ∷ []) new.log) event (subst (λ (g : Gain). Gains g old new) (gains.1) (gains.2)).log
+tried told place floor table v (Some m) old new (Err it) is seat won lost whole gains =
+    let stays : m.1 ≡ m.0 = lost.1.0.2 (lost.2) in
+    let event : try_event v.limit told (cell_stage (m.0)) (cell_stage (m.1)) ≡ look_event place (found_stage it) =
+    try_is_look v.limit told (m.0) (m.1) stays ∙ (ap (λ (p : ℕ). look_event p (cell_stage (m.0))) is
+    ∙ look_is_found place (lost.0) (m.0) it (lost.1.0.0) (lost.3)) in
+    (whole, subst (λ e. AddsEvents old.log (e ∷ []) new.log) event (subst (λ (g : Gain). Gains g old new) (gains.1) (gains.2)).log)
 
 -- a hand that has lent its seat has seen the size that it had seen
 pub lent_seen : (hand : HandView) → seen_size (lent_hand hand) ≡ seen_size hand

@@ -5,6 +5,7 @@ mod looks;
 mod offers;
 mod owners;
 mod race;
+mod run_offers;
 mod shown;
 mod steps;
 mod unfinished;

@@ -7,7 +7,9 @@ ghost use Rattle.tie_core.specs.Desk.{IsTieOf};
 ghost use Rattle.memory_tests.specs.Found.{content_number};
 
 mod entries;
+mod fixed;
 mod runs;
+mod tags;
 
 use atomic_table::{Badge, Shared, Table, TableRule};
 use cell_core::block::{Block, Look, Tied};

@@ -1,5 +1,5 @@
 -- A block of the entry's length, or of another measure, as a type. Assumes `Logic`.
-use Rattle.std.proofs.Common.{◌≡◌, ℕ, List, [], ◌∷◌, sym, ap}
+use Rattle.std.proofs.Common.{◌≡◌, ℕ, List, [], ◌∷◌, ap}
 use Rattle.std.proofs.lemmas.Option.{none-some}
 use seplogic.Ra.Ura.{Ura}
 use mir.Val.{Val}
@@ -64,12 +64,6 @@ pub length_seen : {X : Type 0} (measure : X → ℕ) (mould : X → Mould) (β :
     → seen_as measure mould β x ≡ (n, m) → measure x ≡ n
 length_seen measure mould None x n m e = ap (λ (u : ℕ × Mould). u.0) e
 length_seen measure mould (Some u) x n m e = ap (λ (u : ℕ × Mould). u.0) e
-
--- a block of the length fits an entry that is not tied
-pub fits_plain : {X : Type 0} (measure : X → ℕ) (mould : X → Mould) (β : Option Bond) (x : X) (n : ℕ)
-    → tie_in β ≡ None → measure x ≡ n → seen_as measure mould β x ≡ (n, mould_in β)
-fits_plain measure mould None x n plain e = λ i. (e i, [])
-fits_plain measure mould (Some u) x n plain e = absurd (none-some u.0 (sym plain))
 
 -- a block of the length and the mould fits an entry that is tied
 pub fits_tied : {X : Type 0} (measure : X → ℕ) (mould : X → Mould) (β : Option Bond) (x : X) (n : ℕ) (t : EntryTie)

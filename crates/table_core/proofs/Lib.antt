@@ -12,3 +12,4 @@ mod BlockParts
 mod TiedMoves
 mod TiedRests
 mod PlainMoves
+mod PlainBlocks

@@ -1,6 +1,6 @@
 -- An entry as contracts see it, and the blocks that fit it: those that are as long as the entry says, and whose cells
--- are tied as it says, if it is tied.
-use Rattle.std.specs.Prelude.{◌≡◌, ℕ, List, [], IfSome}
+-- are tied as it says, if it says so.
+use Rattle.std.specs.Prelude.{◌≡◌, ◌⊎◌, ℕ, zero, suc, List, [], ◌∷◌, IfSome}
 use Rattle.std.specs.Coded.{coded_option}
 use base.Stored.{Coded, coded×, coded_ℕ, coded_list, coded_via, gnil, gcons}
 use base.Fml.{Fml, ftrue, fex, fres}
@@ -18,9 +18,14 @@ use Rattle.tie_core.specs.Visit.{EntryTie, entry_tie_coded}
 abbrev pub Mould : Type 0
 Mould = List (Option Tie)
 
--- what ties an entry: its tie, and the mould of its block
+-- the mould of n cells that are not tied
+abbrev pub plain_mould : ℕ → Mould
+plain_mould zero = []
+plain_mould (suc n) = None ∷ plain_mould n
+
+-- what ties an entry: its tie, if it has one, and the mould of its block
 abbrev pub Bond : Type 0
-Bond = EntryTie × Mould
+Bond = Option EntryTie × Mould
 
 -- an entry: the allocator's handle, how long its block is, its name, and what ties it
 abbrev pub EntryView : Type 0
@@ -29,7 +34,8 @@ EntryView = Global × ℕ × ℕ × Option Bond
 -- how that is stored
 abbrev pub bond_coded : Coded (Option Bond)
 bond_coded =
-    coded_option (coded_via (coded× entry_tie_coded (coded_list (coded_option tie_coded))) (λ (u : Bond). (u.0, u.1))
+    coded_option (coded_via (coded× (coded_option entry_tie_coded) (coded_list (coded_option tie_coded)))
+    (λ (u : Bond). (u.0, u.1))
     (λ x y e i. ((e i).0, (e i).1)))
 
 abbrev pub entry_coded : Coded EntryView
@@ -49,7 +55,7 @@ bond_of e = e.3
 
 abbrev pub tie_in : Option Bond → Option EntryTie
 tie_in None = None
-tie_in (Some u) = Some u.0
+tie_in (Some u) = u.0
 
 abbrev pub mould_in : Option Bond → Mould
 mould_in None = []
@@ -58,9 +64,13 @@ mould_in (Some u) = u.1
 abbrev pub tie_of : EntryView → Option EntryTie
 tie_of e = tie_in e.3
 
--- how the cells of its block are tied; nothing if it is not tied
+-- how the cells of its block are tied; nothing if the entry does not say so
 abbrev pub mould_at : EntryView → Mould
 mould_at e = mould_in e.3
+
+-- the mould is the one that the entry says, if it is tied
+abbrev pub FitsEntry : EntryView → Mould → Type 0
+FitsEntry e m = (t : EntryTie) → tie_of e ≡ Some t → m ≡ mould_at e
 
 -- the block x is the one that is known, if any is
 abbrev pub Agrees : {X : Type 0} → Option X → X → Type 0
@@ -80,7 +90,7 @@ module _ (R : RattleType) {N : Type 0} (measure : R.Denot → N) where
   abbrev pub Fit : N → RattleType
   Fit n = ByFields R R.Denot R.coded (λ x. x) (fits n) (λ x b o. said (fits n x))
 
--- what an entry sees of a block: its length, and its mould if the entry is tied
+-- what an entry sees of a block: its length, and its mould if the entry has one
 abbrev pub seen_as : {X : Type 0} → (X → ℕ) → (X → Mould) → Option Bond → X → ℕ × Mould
 seen_as measure mould None x = (measure x, [])
 seen_as measure mould (Some u) x = (measure x, mould x)
@@ -88,3 +98,15 @@ seen_as measure mould (Some u) x = (measure x, mould x)
 -- the type of the blocks that fit an entry
 abbrev pub Cast : (R : RattleType) → (R.Denot → ℕ) → (R.Denot → Mould) → EntryView → RattleType
 Cast R measure mould e = Fit R (seen_as measure mould e.3) (length_of e, mould_in e.3)
+
+-- the block fits the entry
+abbrev pub IsCast : {X : Type 0} → (X → ℕ) → (X → Mould) → EntryView → X → Type 0
+IsCast measure mould e x = seen_as measure mould e.3 x ≡ (length_of e, mould_in e.3)
+
+-- the entry is for blocks whose cells are not tied, and is not tied itself
+abbrev pub IsPlainEntry : EntryView → Type 0
+IsPlainEntry e = bond_of e ≡ Some (None, plain_mould (length_of e))
+
+-- an entry that is not tied is for blocks whose cells are not tied, or says nothing of them
+abbrev pub IsSoft : EntryView → Type 0
+IsSoft e = tie_of e ≡ None → (bond_of e ≡ None) ⊎ IsPlainEntry e

@@ -10,7 +10,7 @@ use Rattle.tie_core.specs.Tie.{Tie}
 use Rattle.tie_core.specs.Visit.{EntryTie, Content}
 use Rattle.cell_core.specs.Block.{BlockView, block_coded, block_len}
 use Rattle.cell_core.specs.Mould.{last_seat, mould_of, row_mould}
-use Rattle.table_core.specs.Entry.{EntryView, Bond, Mould, bond_coded, bond_of, length_of, tie_of, tie_in, mould_in}
+use Rattle.table_core.specs.Entry.{EntryView, Bond, IsPlainEntry, IsSoft, Mould, bond_coded, bond_of, length_of, tie_of, tie_in, mould_in, plain_mould}
 
 -- a table: the layout of its segments, the name of each entry, the entry whose block is lent, if one is, the entry that
 -- `holds_now` last named, if no entry changed since, and what ties each entry
@@ -75,11 +75,20 @@ pub record IsTiedBlockOf (table : TableView) (k : ℕ) (block : BlockView) : Typ
   pub length : IsBlockOf table.layout k block
   pub mould : mould_of block.cells ≡ entry_mould table k
 
+-- the cells of the block are tied as the entry says, if the entry is tied
+abbrev pub FitsTie : TableView → ℕ → BlockView → Type 0
+FitsTie table k block = (own : EntryTie) → entry_tie table k ≡ Some own → mould_of block.cells ≡ entry_mould table k
+
 -- the entry has the tie `own`, and the cells of its block have seats with numbers in a row, and the codes of the tie
 -- `cells`
 pub record IsTiedBy (table : TableView) (k : ℕ) (own : EntryTie) (cells : Tie) : Type 0 where
   pub tie : entry_tie table k ≡ Some own
   pub mould : (n : ℕ) → IsLengthOf table.layout k n → entry_mould table k ≡ row_mould cells n
+
+-- the entry is plain: it is not tied, and neither are the cells of its block
+pub record IsPlainAt (table : TableView) (k : ℕ) : Type 0 where
+  pub tie : entry_tie table k ≡ None
+  pub mould : (n : ℕ) → IsLengthOf table.layout k n → entry_bond table k ≡ Some (None, plain_mould n)
 
 -- what a look at an entry found: nothing, or this block, by the number of its seat
 abbrev pub content_in : Option (Bor BlockView) → Content
@@ -126,14 +135,27 @@ abbrev pub AllPlain : ℕ → List EntryView → Type 0
 AllPlain f entries =
     (k : ℕ) (e : EntryView) → k < segment_count f → tie_of (slice_index_or entries k e) ≡ None
 
--- the tie of an entry
-abbrev pub tie_among : List EntryView → ℕ → Option EntryTie
-tie_among entries k = tie_in (slice_index_or (map bond_of entries) k None)
+-- each entry is plain
+abbrev pub AllPlainEntries : ℕ → List EntryView → Type 0
+AllPlainEntries f entries =
+    (k : ℕ) (e : EntryView) → k < segment_count f → IsPlainEntry (slice_index_or entries k e)
 
--- no entry is tied, if entries of this kind are not; nor is that of a block that is lent
+-- each entry that is not tied is plain, or says nothing of the cells of its block
+abbrev pub AllSoft : ℕ → List EntryView → Type 0
+AllSoft f entries = (k : ℕ) (e : EntryView) → k < segment_count f → IsSoft (slice_index_or entries k e)
+
+-- what ties an entry, and its tie
+abbrev pub bond_among : List EntryView → ℕ → Option Bond
+bond_among entries k = slice_index_or (map bond_of entries) k None
+
+abbrev pub tie_among : List EntryView → ℕ → Option EntryTie
+tie_among entries k = tie_in (bond_among entries k)
+
+-- no entry is tied, if entries of this kind are not; that of a block that is lent says nothing of its cells
 pub record AreOfKind (tied : Bool) (f : ℕ) (lent : Option ℕ) (entries : List EntryView) : Type 0 where
   pub plain : tied ≡ false → AllPlain f entries
-  pub untied : (k : ℕ) → lent ≡ Some k → tie_among entries k ≡ None
+  pub loose : (k : ℕ) → lent ≡ Some k → bond_among entries k ≡ None
+  pub soft : AllSoft f entries
 
 -- the block that is known, if any is
 abbrev pub block_or_empty : Option BlockView → BlockView

@@ -1,12 +1,14 @@
 //! The table of segments.
 ghost use Rattle.std.specs.Prelude.{◌≡◌, ◌<◌, ◌≤◌, ℕ, None, slice_index, IfSome, IfOk};
-ghost use Rattle.table_core.specs.Table.{AllFit, AllPlain, IsBlockOf, IsKeyIn, IsKeyOf, IsLengthOf, entry_tie};
+ghost use Rattle.cell_core.specs.Slot.{ArePlain};
+ghost use Rattle.table_core.specs.Table.{AllFit, AllPlainEntries, FitsTie, IsBlockOf, IsKeyIn, IsKeyOf, IsLengthOf, IsPlainAt, entry_tie};
 ghost use Rattle.seg_core.specs.Segment.{IsLayout, segment_count, most_segments};
-ghost use Rattle.table_core.specs.Entry.{length_of, tie_of};
+ghost use Rattle.table_core.specs.Entry.{IsPlainEntry, bond_of, length_of};
 
 mod key;
 mod key_set;
 mod owner;
+mod plain;
 mod tied;
 
 use crate::entry::{Entry, EntrySight, Measured};
@@ -81,29 +83,48 @@ impl<T: Drop, B: Kind> Drop for Table<T, B> {
     }
 }
 
+// The number of places of a segment, if there is one.
+fn len_of(layout: Layout, segment: u32) -> u64
+    ensures { segment < segment_count layout → IsLengthOf layout segment result }
+{
+    if segment < layout.segments() {
+        layout.len(segment)
+    } else {
+        0
+    }
+}
+
+// An entry for blocks whose cells may be tied or not. It is not tied.
 fn empty_entry<T, B: Kind>(
     alloc: Global,
     layout: Layout,
     segment: u32,
 ) -> Entry<Block<T, Global, B>>
     ensures length { segment < segment_count layout → IsLengthOf layout segment (length_of result) }
-    ensures plain { tie_of result ≡ None }
+    ensures loose { bond_of result ≡ None }
 {
-    let len = if segment < layout.segments() {
-        layout.len(segment)
-    } else {
-        0
-    };
-    Entry::new(alloc, len)
+    Entry::new(alloc, len_of(layout, segment))
 }
 
-// An entry for each segment. None is tied.
+// An entry for blocks whose cells are not tied. It is not tied itself.
+fn plain_entry<T, B: Kind>(
+    alloc: Global,
+    layout: Layout,
+    segment: u32,
+) -> Entry<Block<T, Global, B>>
+    ensures length { segment < segment_count layout → IsLengthOf layout segment (length_of result) }
+    ensures plain { IsPlainEntry result }
+{
+    Entry::new_plain(alloc, len_of(layout, segment))
+}
+
+// An entry for each segment. All are plain.
 fn empty_entries<T, B: Kind>(
     alloc: Global,
     layout: Layout,
 ) -> [Entry<Block<T, Global, B>>; MOST_SEGMENTS]
     ensures fit { AllFit layout result }
-    ensures plain { AllPlain layout result }
+    ensures plain { AllPlainEntries layout result }
 {
     // It is one from 1 to 8: the entries are enough.
     let _f = layout.f();
@@ -111,8 +132,8 @@ fn empty_entries<T, B: Kind>(
         |segment: usize| -> Entry<Block<T, Global, B>>
             requires { segment < most_segments }
             ensures { (segment < segment_count layout
-                → IsLengthOf layout segment (length_of result)) × (tie_of result ≡ None) }
-        { empty_entry(alloc, layout, segment as u32) },
+                → IsLengthOf layout segment (length_of result)) × IsPlainEntry result }
+        { plain_entry(alloc, layout, segment as u32) },
     )
 }
 
@@ -134,11 +155,11 @@ impl<T> Table<T> {
 }
 
 impl<T, B: Kind> Table<T, B> {
-    // A table of entries of which none is set or tied.
-    #[tactic(auto, using(crate::proofs::Bonds::plain_among))]
+    // A table of plain entries of which none is set.
+    #[tactic(auto, using(crate::proofs::PlainBlocks::plain_at))]
     fn without_blocks(alloc: Global, layout: Layout) -> Table<T, B>
         ensures layout { result.layout ≡ layout }
-        ensures untied { (k : ℕ) → k < segment_count layout → entry_tie result k ≡ None }
+        ensures plain { (k : ℕ) → k < segment_count layout → IsPlainAt result k }
     {
         // It is one from 1 to 8.
         let _f = layout.f();
@@ -183,10 +204,15 @@ impl<T, B: Kind> Table<T, B> {
     }
 
     /// Returns the entry's block like `scout`, with the entry's key.
+    #[tactic(auto, using(crate::proofs::PlainBlocks::found_plain))]
     pub fn scout_key(&self, segment: u32) -> Option<(&Block<T, Global, B>, Key)>
         requires { segment < segment_count self.now.layout }
         ensures length { IfSome result (λ (block, _). IsBlockOf self.now.layout segment block.now) }
+        ensures tied { IfSome result (λ (block, _). FitsTie self.now segment block.now) }
         ensures key { IfSome result (λ (block, key). IsKeyOf self.now segment block.now key) }
+        // The cells of a plain entry's block are not tied.
+        ensures plain { IsPlainAt self.now segment
+            → IfSome result (λ (block, _). ArePlain block.now.cells) }
     {
         let entry = &self.entries[segment as usize];
         let mut sight = entry.sight();
@@ -217,10 +243,14 @@ impl<T, B: Kind> Table<T, B> {
     }
 
     /// Returns the key's block, which is always there, by one load.
+    #[tactic(auto, using(crate::proofs::PlainBlocks::found_plain))]
     pub fn known<'a>(&'a self, key: &Key) -> &'a Block<T, Global, B>
         requires { IsKeyIn self.now key.now }
         ensures block { result.now ≡ key.now.block }
         ensures length { IsBlockOf self.now.layout key.now.segment result.now }
+        ensures tied { FitsTie self.now key.now.segment result.now }
+        // The cells of a plain entry's block are not tied.
+        ensures plain { IsPlainAt self.now key.now.segment → ArePlain result.now.cells }
     {
         let mut sight = key.sight.again::<T, B>();
         match self.entries[key.segment as usize].look(&mut sight) {
@@ -241,9 +271,37 @@ impl<T, B: Kind> Table<T, B> {
     }
 }
 
+impl<T: Drop, B: Kind> Table<T, B> {
+    // The entry's block: this one, in a box, unless the entry is set. The entry is not tied.
+    #[tactic(auto, using(crate::proofs::PlainBlocks::setting))]
+    fn put<'a>(
+        &'a self,
+        segment: u32,
+        block: Block<T, Global, B>,
+        sight: &mut EntrySight<Block<T, Global, B>>,
+    ) -> Result<&'a Block<T, Global, B>, AllocError>
+        requires within { segment < segment_count self.now.layout }
+        requires untied { entry_tie self.now segment ≡ None }
+        requires of { slice_index self.now.names segment ≡ sight.old.of }
+        requires length { IsBlockOf self.now.layout segment block }
+        requires plain { ArePlain block.cells }
+        ensures same { sight.new.of ≡ sight.old.of }
+        ensures known { IfOk result (λ block. sight.new.known ≡ Some block.now) }
+        ensures length { IfOk result (λ block. IsBlockOf self.now.layout segment block.now) }
+        ensures plain { IsPlainAt self.now segment → IfOk result (λ block. ArePlain block.now.cells) }
+    {
+        let entry = &self.entries[segment as usize];
+        let (first, back) = entry.set(Box::new(self.alloc, block)?, sight);
+        if let Some(back) = back {
+            Box::into_inner(back).free();
+        }
+        Ok(first)
+    }
+}
+
 impl<T: Drop> Table<T> {
     // The entry's block: a new one, unless the entry is set.
-    #[tactic(auto, using(crate::proofs::Bonds::plain_there))]
+    #[tactic(auto, using(crate::proofs::Bonds::plain_table))]
     fn set<'a>(
         &'a self,
         segment: u32,
@@ -255,16 +313,11 @@ impl<T: Drop> Table<T> {
         ensures known { IfOk result (λ block. sight.new.known ≡ Some block.now) }
         ensures length { IfOk result (λ block. IsBlockOf self.now.layout segment block.now) }
     {
-        let entry = &self.entries[segment as usize];
-        match entry.look(sight) {
+        match self.entries[segment as usize].look(sight) {
             Some(block) => Ok(block),
             None => {
-                let block = Block::new(self.alloc, self.layout.len(segment))?;
-                let (first, back) = entry.set(Box::new(self.alloc, block)?, sight);
-                if let Some(back) = back {
-                    Box::into_inner(back).free();
-                }
-                Ok(first)
+                let block = Block::new_plain(self.alloc, self.layout.len(segment))?;
+                self.put(segment, block, sight)
             }
         }
     }

@@ -11,7 +11,7 @@ use base.Fml.{Lft, Share, Fml, ftrue, fsep, fex, fbor, flft, fnamed}
 use base.Before.{before}
 use types.Logic.{Logic, sem}
 use types.Na.{before-Incl, before_lent}
-use types.Kit.{‵, raw, ◌⊛◌, some, given, ◌$◌, ◌∵◌, !, qed, by, move, drop, pick, show, use0, use1, use2, use3, split, split3, fsplit, fsplit3, fjoin, fpack, fpick, frame, each, assume, suffices, learn, rewrite, settle, done}
+use types.Kit.{‵, raw, ◌⊛◌, some, given, ◌$◌, ◌∵◌, !, qed, by, move, drop, pick, show, use0, use1, use2, use3, split, split3, fsplit, fsplit3, fjoin, fpack, fpick, frame, each, assume, suffices, learn, check, rewrite, settle, done}
 use denote.RattleType.{RattleType}
 use denote.RawPtr.{Ptr}
 use denote.Steps.{nothing}
@@ -24,7 +24,7 @@ use Rattle.atomic_table.specs.declared.shared.TableRule.{Ghosts}
 use Rattle.atomic_table.proofs.Fields.{token_val}
 use Rattle.tie_core.specs.Tie.{Tie, Stage, Idle, Begun, Mending, Filled, Broken, Step, Made, Moves, Gives, IsMade, seat_of, seat_at, tie_further, tie_numbered, row_of, left, update}
 use Rattle.tie_core.specs.Desk.{content, HasCodes, tie_at, gone}
-use Rattle.tie_core.specs.Permits.{PermitsCell, PermitsRow}
+use Rattle.tie_core.specs.Permits.{PermitsCell, PermitsRow, TellsOfBoth}
 use Rattle.tie_core.specs.Run.{IsRunMade, run_of, run_floor, updates}
 use Rattle.tie_core.specs.Visit.{PermitsEntry}
 use Rattle.tie_core.specs.declared.play.Staged as staged
@@ -216,6 +216,16 @@ module _ {M : Type 1} {𝓤 : Ura M} (𝓛 : Logic 𝓤) (R : RattleType) {V : T
       nothing ! $ move ! (1 ∷ 0 ∷ []) $ fjoin ! $ frame ! $ frame ! $ assume ! (‵ J ⊛ ‵ ftrue) $ split ! $ move ! (0 ∷ 2 ∷ []) $
       use2 𝓛 (raw (upd 𝓤 (⟦ J ⟧ ∗ Q))) (seats.enters 𝓛 R cv holds w z id v empty told law) $ settle 𝓛 G (‵ J ⊛ ‵ (fex ℕ Made)) $ split ! $ suffices ! _ (upd_i 𝓤 G) $
       move ! (0 ∷ 2 ∷ 1 ∷ []) $ done !
+
+  -- what the rule tells of two seats comes without a step
+  pub comparing : (floor id : ℕ) (v : V) (k : ℕ) (x : V) (told : Type 0) → TellsOfBoth holds id v k x told → (q : Share)
+      → ⟦ fnamed floor (fbor α J) ⟧ ∗ A.lft α q ∗ (⟦ half id v ⟧ ∗ ⟦ half k x ⟧) ⊢ H.⇛ (guard 𝓤 told (⟦ half id v ⟧ ∗ ⟦ half k x ⟧) ∗ A.lft α q)
+  comparing floor id v k x told law q = let Q : Pr = guard 𝓤 told (⟦ half id v ⟧ ∗ ⟦ half k x ⟧) in let G : Pr = ⟦ J ⟧ ∗ (⟦ ftrue ⟧ ∗ Q) in
+      qed 𝓛 (‵ (fnamed floor (fbor α J)) ∷ ‵ (flft α q) ∷ ‵ (half id v) ∷ ‵ (half k x) ∷ []) ∵ suffices ! _ (𝓛.invs.invs_bor_acc floor α q J [] Q ((λ m. not-mem-nil m), tt)) $
+      nothing ! $ move ! (1 ∷ 0 ∷ []) $ fjoin ! $ frame ! $ frame ! $ assume ! (‵ J ⊛ ‵ ftrue) $ split ! $ move ! (0 ∷ 2 ∷ 3 ∷ []) $
+      use3 𝓛 (raw (upd 𝓤 (guard 𝓤 told (⟦ J ⟧ ∗ ⟦ half id v ⟧ ∗ ⟦ half k x ⟧)))) (seats.compares 𝓛 R cv holds w z id v k x told law) $ settle 𝓛 G (given told (‵ J ⊛ ‵ (half id v) ⊛ ‵ (half k x))) $ learn ! (λ so. split3 ! $ suffices ! _ (upd_i 𝓤 G) $
+      -- [the table; the two seats; nothing]
+      frame ! $ move ! (2 ∷ []) $ frame ! $ check ! so $ done !)
 
 -- what a `&` to a table shows of its invariant: it has a number
 pub names : {M : Type 1} {𝓤 : Ura M} (𝓛 : Logic 𝓤) (R : RattleType) {V : Type 0} (cv : Coded V) (holds : State R.Denot V → Type 0) (z : TableId) (w p : Ptr)

@@ -20,7 +20,7 @@ use Rattle.atomic_table.proofs.Roster.{resets, apart, Moved, moves}
 use Rattle.atomic_table.proofs.Lists.{set_again}
 use Rattle.tie_core.specs.Tie.{Stage, Idle, seats, row_of}
 use Rattle.tie_core.specs.Desk.{content, gone, tie_at}
-use Rattle.tie_core.specs.Permits.{with_views, PermitsAlone, PermitsLook, PermitsTrade, PermitsRow}
+use Rattle.tie_core.specs.Permits.{with_views, PermitsAlone, PermitsLook, PermitsTrade, PermitsRow, TellsOfBoth}
 use Rattle.tie_core.specs.Visit.{PermitsEntry}
 
 module _ {M : Type 1} {𝓤 : Ura M} (𝓛 : Logic 𝓤) (R : RattleType) {V : Type 0} (cv : Coded V) (holds : State R.Denot V → Type 0) (w : Ptr) (z : TableId) where
@@ -124,6 +124,21 @@ module _ {M : Type 1} {𝓤 : Ura M} (𝓛 : Logic 𝓤) (R : RattleType) {V : T
       -- [the views; the caller's seat; the second one; the slots; the words]
       move ! (4 ∷ 3 ∷ 0 ∷ []) $ use3 𝓛 (‵ J) (shut s us (r.1, fits.1, fits.2)) $ move ! (1 ∷ []) $
       nothing ! $ fpack ! (told u) (λ _. ftrue) r.2 $ fjoin ! $ fpack ! V (λ t. fsep (fex (told t) (λ _. ftrue)) (half id t)) u $ move ! (2 ∷ 1 ∷ 0 ∷ []) $ done !)))))
+
+  -- the rule tells something of two seats, which stay
+  pub compares : (id : ℕ) (v : V) (k : ℕ) (x : V) (told : Type 0) → TellsOfBoth holds id v k x told
+      → ⟦ J ⟧ ∗ ⟦ half id v ⟧ ∗ ⟦ half k x ⟧ ⊢ upd 𝓤 (guard 𝓤 told (⟦ J ⟧ ∗ ⟦ half id v ⟧ ∗ ⟦ half k x ⟧))
+  compares id v k x told law = let Z : Pr = guard 𝓤 told (⟦ J ⟧ ∗ ⟦ half id v ⟧ ∗ ⟦ half k x ⟧) in
+      qed 𝓛 (‵ J ∷ ‵ (half id v) ∷ ‵ (half k x) ∷ []) ∵ move ! (1 ∷ 2 ∷ []) $ use2 𝓛 (given (k ≢ id) (‵ (half id v) ⊛ ‵ (half k x))) (apart 𝓛 cv γ id k v x) $ learn ! (λ two. split ! $
+      move ! (2 ∷ []) $ fpick ! (λ s. fsplit3 ! $ move ! (2 ∷ []) $ fpick ! (λ fits. drop ! $ move ! (1 ∷ []) $ fsplit ! $
+      -- [the slots; the views; the words; the first seat; the second one]
+      move ! (1 ∷ 4 ∷ []) $ use2 𝓛 (raw (upd 𝓤 (guard 𝓤 (get_elem? s.views k ≡ some x) (⟦ L s.views ⟧ ∗ ⟦ half k x ⟧)))) (seen_at s.views k x) $
+      settle 𝓛 Z (given (get_elem? s.views k ≡ some x) (‵ (L s.views) ⊛ ‵ (half k x))) $ learn ! (λ there. split ! $
+      -- [the views; the second seat; the slots; the words; the first seat]
+      move ! (0 ∷ 4 ∷ []) $ use2 𝓛 (raw (upd 𝓤 (guard 𝓤 (get_elem? s.views id ≡ some v) (⟦ L s.views ⟧ ∗ ⟦ half id v ⟧)))) (seen_at s.views id v) $
+      settle 𝓛 Z (given (get_elem? s.views id ≡ some v) (‵ (L s.views) ⊛ ‵ (half id v))) $ learn ! (λ here. split ! $ suffices ! _ (upd_i 𝓤 Z) $ check ! (law s fits.0 here two there) $
+      -- [the views; the first seat; the second one; the slots; the words]
+      move ! (4 ∷ 3 ∷ 0 ∷ []) $ use3 𝓛 (‵ J) (shut s s.views fits) $ done !)))))
 
   -- the caller's seat moves alone
   pub moves_alone : (id : ℕ) (v : V) (told : V → Type 0) → PermitsAlone holds id v told → ⟦ J ⟧ ∗ ⟦ half id v ⟧ ⊢ upd 𝓤 (⟦ J ⟧ ∗ ⟦ Gone id told ⟧)

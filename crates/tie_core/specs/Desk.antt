@@ -7,7 +7,7 @@ use denote.RattleType.{RattleType}
 use denote.RawPtr.{Ptr}
 use Rattle.atomic_table.specs.Table.{State}
 use Rattle.atomic_table.specs.Seated.{TableId, age, place, inner, seen, seal}
-use Rattle.tie_core.specs.Tie.{Tie, Stage, Idle, Begun, Mending, Filled, Broken, Made, code_at}
+use Rattle.tie_core.specs.Tie.{Tie, Stage, Idle, Begun, Mending, Filled, Broken, Made, code_at, tie_numbered}
 
 -- what the invariant of a table holds, whose words are at the pointer
 abbrev pub content : (R : RattleType) {V : Type 0} → (V → Gv) → (State R.Denot V → Type 0) → Ptr → TableId → Fml
@@ -45,6 +45,11 @@ pub record IsTieOf (z : TableId) (number : ℕ) (t : Tie) : Type 0 where
   pub views : t.views ≡ z.views_name
   pub floor : t.floor ≡ number
   pub free : t.fixed ≡ None
+
+-- if both ties are of seats of one table, they differ in the numbers of the seats alone
+abbrev pub AreAlike : Tie → Tie → Type 0
+AreAlike a b =
+    (z : TableId) (number k : ℕ) → IsTieOf z number a → IsTieOf z number b → tie_numbered a k ≡ tie_numbered b k
 
 -- the tie is fixed at a stage, and of a table whose invariant has this number
 pub record IsFixedTie (number : ℕ) (a : Stage) (t : Tie) : Type 0 where

@@ -3,3 +3,4 @@ pub mod Desk
 pub mod Permits
 pub mod Run
 pub mod Visit
+pub mod Tags

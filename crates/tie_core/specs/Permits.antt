@@ -37,6 +37,11 @@ module _ {S V : Type 0} (holds : State S V → Type 0) where
       → get_elem? s.views k ≡ some x → get_elem? s.views j ≡ some y
       → (u : V) × holds (with_views s (slice_set (slice_set (slice_set s.views id u) k x') j y')) × then u
 
+  -- The rule tells this of two seats: `id`, at the view v, and k, at the view x.
+  abbrev pub TellsOfBoth : ℕ → V → ℕ → V → Type 0 → Type 0
+  TellsOfBoth id v k x told = (s : State S V) → holds s → get_elem? s.views id ≡ some v → k ≢ id
+      → get_elem? s.views k ≡ some x → told
+
   -- New seats may come: n that show idle cells, and one behind them, whose view is made of the first one's number and
   -- n.
   abbrev pub PermitsRow : (Stage → V) → (ℕ → ℕ → V) → ℕ → Type 0

@@ -59,6 +59,15 @@ impl<S, V, K, P: TableRule<S, V, K>> Desk<S, V, K, P> {
 }
 
 impl<S, V, K, P: TableRule<S, V, K> + Staged<V>> Desk<S, V, K, P> {
+    /// Returns a tag of the table, of no seat in particular: its codes are those of all the desk's tags.
+    pub fn tag(&self) -> Tag<V, P>
+        ensures { IsTieOf self.now.table_id self.now.floor result.tie }
+    {
+        Tag {
+            marker: PhantomData,
+        }
+    }
+
     /// Takes the caller's seat out of its badge and makes an offer of it, for one step on the cell that has the tag.
     /// The rule must allow the step for the view that the seat has, and for the number `told`. `Offer::back` gives the
     /// seat back after the step; if the offer is dropped, the seat is lost.
@@ -82,6 +91,7 @@ impl<S, V, K, P: TableRule<S, V, K> + Staged<V>> Desk<S, V, K, P> {
             × (badge.old.views ≡ result.about.view ∷ []) × (result.about.told ≡ told) }
         ensures offer { (result.tie ≡ tag.now.tie) × (result.step ≡ M.step) × (result.made ≡ None) }
     {
+        // In the proof, the offer's update gets the badge's seat.
         Offer {
             marker: PhantomData,
         }
@@ -112,6 +122,7 @@ impl<S, V, K, P: TableRule<S, V, K> + Staged<V>> Desk<S, V, K, P> {
         ensures offer { (result.ties ≡ run_of tag.now.tie n) × (length result.ties ≡ n)
             × (result.step ≡ M.step) × (result.made ≡ None) }
     {
+        // In the proof, the updates get the badge's seat.
         RunOffer {
             marker: PhantomData,
         }
@@ -134,6 +145,7 @@ impl<S, V, K, P: TableRule<S, V, K> + Staged<V>> Desk<S, V, K, P> {
             × (badge.new.id ≡ result.1.tie.id + n)
             × (badge.new.views ≡ O.owner result.1.tie.id n ∷ []) }
     {
+        // In the proof, the seats come out of the table's invariant.
         (
             Seats {
                 marker: PhantomData,
@@ -167,6 +179,7 @@ impl<S, V, K, P: TableRule<S, V, K> + Entered<V>> Desk<S, V, K, P> {
             × ((v : V) × (u : V) × (badge.old.views ≡ v ∷ []) × (badge.new.views ≡ u ∷ [])
             × M.then from v None u) }
     {
+        // In the proof, the entry's seat comes out of the table's invariant, and the badge's moves along.
         (
             EntrySeat {
                 marker: PhantomData,
@@ -201,6 +214,7 @@ impl<S, V, K, P: TableRule<S, V, K> + Entered<V>> Desk<S, V, K, P> {
         ensures visit { (result.tie ≡ tag.now.tie) × (result.brought ≡ None)
             × (result.made ≡ None) }
     {
+        // In the proof, the visit's update gets the badge's seat.
         Visit {
             marker: PhantomData,
         }
@@ -233,6 +247,7 @@ impl<S, V, K, P: TableRule<S, V, K> + Entered<V>> Desk<S, V, K, P> {
         ensures visit { (result.tie ≡ tag.now.tie) × (result.brought ≡ Some block.old.id)
             × (result.made ≡ None) }
     {
+        // In the proof, the visit's update gets the seats of both badges.
         Visit {
             marker: PhantomData,
         }

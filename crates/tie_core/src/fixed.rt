@@ -40,6 +40,7 @@ impl<S, V, K, P: TableRule<S, V, K>> Desk<S, V, K, P> {
         ensures offer { (result.tie ≡ B.tie_at cells.now offset) × (result.step ≡ looks)
             × (result.made ≡ None) }
     {
+        // In the proof, the look's update gets the badge's seat.
         Offer {
             marker: PhantomData,
         }

@@ -15,6 +15,7 @@
 //! one cell come from one desk, or from its duplicates, since two desks may have two numbers of one invariant.
 #![tactic(auto)]
 
+mod compare;
 mod desk;
 mod fixed;
 mod offer;
@@ -22,8 +23,10 @@ mod play;
 mod run;
 mod seats;
 mod tag;
+mod tags;
 mod visit;
 
+pub use compare::PairLaw;
 pub use desk::Desk;
 pub use fixed::TiedCells;
 pub use offer::{Book, Offer};
@@ -31,4 +34,5 @@ pub use play::{CellPlay, Moving, RowPlay, SeatMove, Staged};
 pub use run::{RunBook, RunOffer, RunPlay, SeatRun};
 pub use seats::Seats;
 pub use tag::{Numbered, Tag};
+pub use tags::EntryTags;
 pub use visit::{Entered, EntryBook, EntryPlay, EntrySeat, EntryTag, SeatVisit, Visit};

@@ -3,7 +3,7 @@ ghost use Rattle.std.specs.Prelude.{◌≡◌, ℕ};
 ghost use denote.Sharing.{said};
 ghost use Rattle.atomic_table.specs.Seated.{TableId};
 ghost use Rattle.tie_core.specs.Tie.{Tie, tie_coded, tie_further, tie_numbered};
-ghost use Rattle.tie_core.specs.Desk.{IsTieOf, tagged};
+ghost use Rattle.tie_core.specs.Desk.{AreAlike, IsTieOf, tagged};
 
 use crate::play::Staged;
 use std::marker::{Model, PhantomData};
@@ -33,6 +33,7 @@ impl<V, P: Staged<V>> Tag<V, P> {
         ensures table { (z : TableId) (floor : ℕ) → IsTieOf z floor self.now.tie
             → IsTieOf z floor result.tie }
     {
+        // In the proof, the codes are those of each seat.
         Tag {
             marker: PhantomData,
         }
@@ -44,6 +45,7 @@ impl<V, P: Staged<V>> Tag<V, P> {
         ensures table { (z : TableId) (floor : ℕ) → IsTieOf z floor self.now.tie
             → IsTieOf z floor result.tie }
     {
+        // In the proof, the codes are those of every number.
         Tag {
             marker: PhantomData,
         }
@@ -55,6 +57,18 @@ impl<V, P: Staged<V>> Tag<V, P> {
     {
         self.further(0)
     }
+
+    /// Shows a proof that two tags of one desk differ in the numbers of their seats alone. The call does nothing.
+    pub fn agrees(&self, other: &Tag<V, P>)
+        ensures { AreAlike self.now.tie other.now.tie }
+    {
+        self.has_codes_of(other);
+    }
+
+    // Both have the codes of the same views.
+    fn has_codes_of(&self, other: &Tag<V, P>)
+        ensures { AreAlike self.now.tie other.now.tie }
+    {}
 }
 
 impl<V, P: Staged<V>> Drop for Tag<V, P> {

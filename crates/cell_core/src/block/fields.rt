@@ -1,8 +1,9 @@
 // The place of a cell's state: each word of a block has the states of sixteen cells, four bits a cell.
-ghost use Rattle.std.specs.Prelude.{true, ◌≡◌, ◌+◌, ◌-◌, ◌*◌, ◌/◌, ◌%◌, ◌^◌, ◌<◌, ◌≤◌};
+ghost use Rattle.std.specs.Prelude.{true, ◌≡◌, ◌≢◌, ◌+◌, ◌-◌, ◌*◌, ◌/◌, ◌%◌, ◌^◌, ◌<◌, ◌≤◌};
 ghost use Rattle.cell_core.specs.Fields.{field, sums};
 ghost use Rattle.cell_core.specs.Run.{AreEmptyIn, AreFilledIn};
 ghost use Rattle.cell_core.specs.Laid.{word_cells};
+ghost use Rattle.cell_core.specs.Slot.{filled_state};
 
 // The cells that have their states in one word.
 pub(crate) const WORD_CELLS: u64 = 16;
@@ -86,7 +87,8 @@ pub(crate) fn are_empty(word: u64, n: u64, offset: u64) -> bool
 // Returns how many cells from this one on are filled in the word, up to the first that is not and `n` at most.
 #[inline(always)]
 pub(crate) fn filled_in(word: u64, n: u64, offset: u64) -> u64
-    ensures { (result ≤ n) × AreFilledIn word (offset % word_cells) result }
+    ensures { (result ≤ n) × AreFilledIn word (offset % word_cells) result
+        × (result < n → field word (offset % word_cells + result) ≢ filled_state) }
 {
     let fields = word >> (STATE_BITS * (offset % WORD_CELLS));
     // The lowest bit of the difference is in the field of the first cell that is not filled.

@@ -1,6 +1,6 @@
 // Filled cells next to each other: one load for each word shows how many there are, and what is known of each.
 ghost use Rattle.std.specs.Prelude.{◌≡◌, ◌+◌, ◌%◌, ◌<◌, ◌≤◌, Some, length, map, slice_get};
-ghost use Rattle.cell_core.specs.Block.{block_len, AreFilledFrom, IsPlacedAt};
+ghost use Rattle.cell_core.specs.Block.{block_len, AreAtFilled, AreFilledFrom, IsOtherAfter, IsPlacedAt};
 ghost use Rattle.cell_core.specs.Laid.{word_cells};
 
 use crate::block::fields::{WORD_CELLS, filled_in, word_of};
@@ -18,6 +18,8 @@ impl<T, A: Allocator, B: Kind> Block<T, A, B> {
         ensures most { result.0 ≤ n }
         ensures row { length result.1 ≡ result.0 }
         ensures filled { AreFilledFrom self.now offset result.1 }
+        ensures stages { AreAtFilled self.now offset result.0 }
+        ensures next { IsOtherAfter self.now offset result.0 n }
     {
         let cells = self
             .laid
@@ -38,6 +40,8 @@ impl<T, A: Allocator, B: Kind> Block<T, A, B> {
         ensures most { result.1 ≤ result.0 }
         ensures row { length result.2 ≡ result.1 }
         ensures filled { AreFilledFrom self.now offset result.2 }
+        ensures stages { AreAtFilled self.now offset result.1 }
+        ensures next { IsOtherAfter self.now offset result.1 result.0 }
     {
         // A whole word is compared with one that is filled: the compiler knows both numbers.
         if offset % WORD_CELLS == 0 && WORD_CELLS <= n {
@@ -56,6 +60,8 @@ impl<T, A: Allocator, B: Kind> Block<T, A, B> {
         ensures most { result.0 ≤ n }
         ensures row { length result.1 ≡ result.0 }
         ensures filled { AreFilledFrom self.now offset result.1 }
+        ensures stages { AreAtFilled self.now offset result.0 }
+        ensures next { IsOtherAfter self.now offset result.0 n }
     {
         // For the proof: offsets below the length fit into 64 bits.
         let _len = self.len;

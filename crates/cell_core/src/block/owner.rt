@@ -1,6 +1,7 @@
 // Calls of an exclusive owner of a block's cells, and what it learns of them.
 ghost use Rattle.std.specs.Prelude.{◌≡◌, ◌≢◌, ◌<◌, Some, None, MatchOption, IfSome};
-ghost use Rattle.cell_core.specs.Block.{block_len, cell_at, IsPlacedIn, IsPlacedAt, IsMemberAt, FixesTie, KeepsOtherCells, RenewsCell};
+ghost use Rattle.cell_core.specs.Block.{block_len, cell_at, IsPlacedIn, IsPlacedAt, IsMemberAt, FixesTie, KeepsOtherCells, RenewsCell, StaysPlain};
+ghost use Rattle.cell_core.specs.Fixed.{HasValueByStage};
 ghost use Rattle.tie_core.specs.Tie.{Idle, Filled, Broken};
 
 use crate::block::fields::{in_field, keep_of, state_in, word_of};
@@ -51,12 +52,14 @@ impl<T, A: Allocator, B: Kind> Block<T, A, B> {
     }
 
     /// Settles the cell and returns what is known of it. If it holds no value it is now broken until the
-    /// epoch ends, and has fresh names, so no older token applies to it and none has a value.
+    /// epoch ends, and has fresh names, so no older token applies to it and none has a value. A cell that is fixed at a
+    /// stage has a value exactly if it is filled by its stage.
     pub fn settle_now(&mut self, offset: u64, epoch: &Epoch) -> Member<T>
         requires { offset < block_len self.old }
         ensures member { IsMemberAt self.new offset result }
         ensures name { result.name ≡ (cell_at self.old offset).value_name }
         ensures filled { result.value ≢ None → self.new ≡ self.old }
+        ensures stage { HasValueByStage (cell_at self.old offset) result.value }
         ensures epoch { result.value ≡ None → result.epoch ≡ epoch.now }
         ensures another { result.value ≡ None → RenewsCell self.old self.new offset }
         ensures fixed { result.value ≡ None → FixesTie self.old self.new offset Broken }
@@ -76,12 +79,15 @@ impl<T, A: Allocator, B: Kind> Block<T, A, B> {
     }
 
     /// Settles the cell like `settle_now`, when something is known of it: a known value stays.
+    #[tactic(auto, using(crate::proofs::PlainCells::settled_plain))]
     pub fn settle_known(&mut self, offset: u64, known: &Member<T>, epoch: &Epoch) -> Member<T>
         requires { IsMemberAt self.old offset known.now }
         ensures member { IsMemberAt self.new offset result }
         ensures name { result.name ≡ (cell_at self.old offset).value_name }
         ensures kept { known.now.value ≢ None → result.value ≡ known.now.value }
+        ensures stage { HasValueByStage (cell_at self.old offset) result.value }
         ensures epoch { result.value ≡ None → result.epoch ≡ epoch.now }
+        ensures plain { StaysPlain self.old self.new offset }
         ensures len { block_len self.new ≡ block_len self.old }
         ensures others { KeepsOtherCells self.old self.new offset }
     {
@@ -120,12 +126,13 @@ impl<T, A: Allocator, B: Kind> Block<T, A, B> {
 
     /// Fills the cell with the value, whatever it held, and returns its token and the value that it held, if
     /// any.
-    #[tactic(auto, using(crate::proofs::PlainCells::fixed_again))]
+    #[tactic(auto, using(crate::proofs::PlainCells::fixed_again, crate::proofs::PlainCells::fixed_plain))]
     pub fn put_now(&mut self, offset: u64, value: T) -> (Placed<T>, Option<T>)
         requires { offset < block_len self.old }
         ensures placed { IsPlacedAt self.new offset result.0 }
         ensures value { result.0.value ≡ value }
         ensures fixed { FixesTie self.old self.new offset Filled }
+        ensures plain { StaysPlain self.old self.new offset }
         ensures len { block_len self.new ≡ block_len self.old }
         ensures others { KeepsOtherCells self.old self.new offset }
     {
@@ -143,13 +150,14 @@ impl<T, A: Allocator, B: Kind> Block<T, A, B> {
 
     /// Breaks the cell until the epoch ends, and returns what is then known of it and the value that it held,
     /// if any.
-    #[tactic(auto, using(crate::proofs::PlainCells::fixed_again))]
+    #[tactic(auto, using(crate::proofs::PlainCells::fixed_again, crate::proofs::PlainCells::fixed_plain))]
     pub fn spoil_now(&mut self, offset: u64, epoch: &Epoch) -> (Member<T>, Option<T>)
         requires { offset < block_len self.old }
         ensures member { IsMemberAt self.new offset result.0 }
         ensures broken { result.0.value ≡ None }
         ensures epoch { result.0.epoch ≡ epoch.now }
         ensures fixed { FixesTie self.old self.new offset Broken }
+        ensures plain { StaysPlain self.old self.new offset }
         ensures len { block_len self.new ≡ block_len self.old }
         ensures others { KeepsOtherCells self.old self.new offset }
     {

@@ -8,7 +8,7 @@ ghost use Rattle.cell_core.specs.Slot.{ArePlain};
 use crate::block::fields::{WORD_CELLS, are_empty, in_fields, word_of};
 use crate::block::pen::Pen;
 use crate::block::{Block, Kind, Plain, Row};
-use crate::slot::run::{RawCells, RawRun};
+use crate::slot::run::RawRun;
 use crate::slot::steps::{BUSY, FILLED};
 use std::alloc::Allocator;
 use std::marker::{Model, PhantomData};
@@ -56,35 +56,40 @@ impl<T, A: Allocator, B: Kind> Block<T, A, B> {
 }
 
 impl<T, A: Allocator> Block<T, A> {
-    // `n` cells that are not tied, from an offset on, whose states are in one word.
-    #[tactic(auto, using(crate::proofs::PlainCells::plain_from))]
-    fn plain_cells(&self, offset: u64, n: u64) -> RawCells<'_, T>
-        requires { (offset + n ≤ block_len self.now) × (0 < n)
-            × (offset % word_cells + n ≤ word_cells) }
-        ensures { (result.of ≡ cells_from n offset self.now.cells)
-            × (result.index ≡ offset % word_cells)
-            × ArePlain result.of }
-    {
-        self.laid
-            .cells(self.link, word_of(offset), offset as usize, n as usize)
-    }
-
     /// Begins `n` cells from an offset on, whose states are in one word, by one step. Returns `None`, and begins none,
     /// if one of them is not empty, or if another call changed the word meanwhile.
-    #[tactic(auto, using(crate::proofs::RunParts::from_length))]
+    #[inline(always)]
     pub fn begin_run(&self, offset: u64, n: u64) -> Option<RunPen<'_, T>>
         requires within { offset + n ≤ block_len self.now }
         requires some { 0 < n }
         requires word { offset % word_cells + n ≤ word_cells }
         ensures { IfSome result (IsRunPenAt self.now offset n) }
     {
-        let (word, sight) = self.plain_cell(offset).look();
+        self.kind_laws();
+        self.begin_run_plain(offset, n)
+    }
+}
+
+impl<T, A: Allocator, B: Kind> Block<T, A, B> {
+    /// Begins `n` cells like `begin_run`. They are not tied, though others of the block may be.
+    #[tactic(auto, using(crate::proofs::RunParts::from_length))]
+    pub fn begin_run_plain(&self, offset: u64, n: u64) -> Option<RunPen<'_, T>>
+        requires within { offset + n ≤ block_len self.now }
+        requires some { 0 < n }
+        requires word { offset % word_cells + n ≤ word_cells }
+        requires plain { ArePlain (cells_from n offset self.now.cells) }
+        ensures { IfSome result (IsRunPenAt self.now offset n) }
+    {
+        let (word, sight) = self.cell(offset).sight();
         sight.unused();
         if !are_empty(word, n, offset) {
             return None;
         }
         let begun = word.wrapping_add(in_fields(BUSY, n, offset));
-        let (found, run) = self.plain_cells(offset, n).begin(word, begun);
+        let (found, run) = self
+            .laid
+            .cells(self.link, word_of(offset), offset as usize, n as usize)
+            .begin(word, begun);
         if found == word {
             Some(RunPen {
                 offset,

@@ -6,6 +6,7 @@ ghost use prog.Memory.{capped};
 ghost use denote.RawPtr.{Ptr, coded_ptr};
 ghost use Rattle.cell_core.specs.Slot.{Names, names_coded, cell_in, step, filled_state, owner_broken_state};
 ghost use Rattle.cell_core.specs.Laid.{Extent, extent_coded, rooms_owned, laid, laid_lent, word_cells, FitsMemory, IsLinked, IsFieldOf, HasMore, HasMoreTied, HasOneRenamed, IsFixedAt};
+ghost use Rattle.cell_core.specs.Fixed.{HasValueByStage};
 ghost use Rattle.tie_core.specs.Tie.{Idle, Filled, Broken};
 ghost use Rattle.cell_core.specs.Member.{AreUntied, KnowsCells, Settles};
 ghost use Rattle.cell_core.specs.Run.{cells_from};
@@ -171,16 +172,11 @@ impl<T, A: Allocator> Laid<T, A> {
 
     // The same cells without their ties: each seat is given up. What is known of cells by the row, from an index on,
     // stays known. It is no instruction.
-    pub(crate) fn untie(self, row: &RawRow<T>, from: u64) -> Laid<T, A>
-        requires { KnowsCells row.now.of from self.cells }
-        ensures { (result.heap ≡ self.heap) × (result.rows ≡ self.rows)
-            × AreUntied self.cells result.cells × KnowsCells row.now.of from result.cells }
-    {
-        let Laid { marker: _ } = self;
-        Laid {
-            marker: PhantomData,
-        }
-    }
+    pub(crate) fn untie(&mut self, row: &RawRow<T>, from: u64)
+        requires { KnowsCells row.now.of from self.old.cells }
+        ensures { (self.new.heap ≡ self.old.heap) × (self.new.rows ≡ self.old.rows)
+            × AreUntied self.old.cells self.new.cells × KnowsCells row.now.of from self.new.cells }
+    {}
 
     // One more word, of `n` empty cells.
     pub(crate) fn push(&mut self, words: *mut u64, word: usize, n: usize)
@@ -390,7 +386,8 @@ impl<T, A: Allocator> Laid<T, A> {
             × (result.of.name ≡ (cell_in self.old.cells index).value_name)
             × Settles self.old.cells index self.new.cells result.of.value result.of.epoch
             × (result.of.epoch ≡ epoch.now.of ∷ [])
-            × (result.of.value ≡ None → IsFixedAt self.old.cells index self.new.cells Broken) }
+            × (result.of.value ≡ None → IsFixedAt self.old.cells index self.new.cells Broken)
+            × HasValueByStage (cell_in self.old.cells index) result.of.value }
     {
         unsafe {
             let place = link.words.add(word);

@@ -2,17 +2,18 @@
 // update that the caller brings.
 ghost use Rattle.std.specs.Prelude.{◌≡◌, ◌≢◌, ◌<◌, ◌≤◌, ◌+◌, ℕ, Some, None, IfOk, IfErr, length};
 ghost use Rattle.cell_core.specs.Block.{block_len, cell_at, IsPenAt, IsFresh, IsMending};
-ghost use Rattle.cell_core.specs.Shown.{IsFoundIn, IsLookAt, IsLookOf};
+ghost use Rattle.cell_core.specs.Shown.{IsFoundIn, IsFoundOf, IsLookAt, IsLookOf, IsNotBroken};
 ghost use Rattle.cell_core.specs.Slot.{AreTied, empty_state, broken_state};
 ghost use Rattle.cell_core.specs.Member.{IsUntied, KnowsCells};
 ghost use Rattle.cell_core.specs.Mould.{first_seat, last_seat, mould_of, row_mould, tie_in};
 ghost use Rattle.cell_core.specs.Run.{AreTiedTo, cells_from};
-ghost use Rattle.tie_core.specs.Tie.{Tie, HasMade, begins, breaks, fills, looks, mends, row_of, tie_further, tie_numbered};
+ghost use Rattle.tie_core.specs.Tie.{Tie, Begun, Mending, Filled, Broken, HasMade, begins, breaks, fills, looks, mends, row_of, tie_further, tie_numbered};
 ghost use Rattle.tie_core.specs.Run.{run_of};
 
-use crate::block::fields::{all_but, in_field, state_in, words_for};
-use crate::block::steps::{Laid, Link, Rooms};
-use crate::block::{Block, First, Found, Look, Pen, Placed, Row, Spoilt, Tied, lay_for};
+use crate::block::fields::{all_but, in_field, state_in};
+use crate::block::{
+    Block, First, Found, Look, Pen, Placed, Row, Spoilt, Tied, lay_for, reserve_rows,
+};
 use crate::slot::steps::{BROKEN, BUSY, FILLED};
 use std::alloc::{AllocError, Allocator};
 use std::marker::PhantomData;
@@ -37,16 +38,8 @@ impl<T, A: Allocator> Block<T, A, Tied> {
         ensures len { IfOk result (λ block. block_len block ≡ n) }
         ensures ties { IfOk result (λ block. AreTied seats.ties block.cells) }
     {
-        let (rooms, values) = Rooms::reserve(&alloc, n as usize)?;
-        let (words, states) = match Rooms::reserve(&alloc, words_for(n)) {
-            Ok(row) => row,
-            Err(error) => {
-                values.free(&alloc, rooms, n as usize);
-                return Err(error);
-            }
-        };
-        let link = Link::of(words, rooms);
-        let laid = lay_for(Laid::new(states, values), words, n, seats);
+        let (link, laid) = reserve_rows(&alloc, n)?;
+        let laid = lay_for(laid, link.words, n, seats);
         Ok(Block {
             alloc,
             link,
@@ -74,10 +67,12 @@ impl<T, A: Allocator> Block<T, A, Tied> {
             len,
             marker: _,
         } = self;
+        let mut laid = laid;
+        laid.untie(&row.row, from);
         Block {
             alloc,
             link,
-            laid: laid.untie(&row.row, from),
+            laid,
             len,
             marker: PhantomData,
         }
@@ -152,7 +147,8 @@ impl<T, A: Allocator> Block<T, A, Tied> {
     }
 
     /// Takes a tied cell that is broken by one step from broken to busy. The offer's update runs in the step, whatever
-    /// the step finds. If an owner broke the cell, this returns `Found::Broken`.
+    /// the step finds. If an owner broke the cell, this returns `Found::Broken`; such a cell has no seat.
+    #[tactic(auto, using(crate::proofs::FoundCells::not_broken))]
     pub fn mend_for<'a, 'b, X, K: Book<X>>(
         &'a self,
         offset: u64,
@@ -165,8 +161,9 @@ impl<T, A: Allocator> Block<T, A, Tied> {
         ensures broken { IfOk result.0 IsMending }
         ensures found { IfErr result.0 (IsFoundIn self.now offset) }
         ensures made { IfOk result.0 (λ _. HasMade mends broken_state result.1.made) }
-        ensures lost { IfErr result.0
-            (λ _. (n : ℕ) × HasMade mends n result.1.made × (n ≢ broken_state)) }
+        ensures lost { IfErr result.0 (λ found.
+            (n : ℕ) × HasMade mends n result.1.made × (n ≢ broken_state) × IsFoundOf n found) }
+        ensures seated { offer.entry.tie.fixed ≡ None → IfErr result.0 IsNotBroken }
         ensures offer { (result.1.tie ≡ offer.entry.tie) × (result.1.about ≡ offer.entry.about) }
     {
         let mask = all_but(BROKEN - BUSY, offset);
@@ -199,7 +196,7 @@ impl<'a, T> Pen<'a, T, First> {
         ensures value { result.0.value ≡ value }
         ensures name { result.0.name ≡ self.entry.cell.value_name }
         ensures found { result.0.found ≡ self.entry.found }
-        ensures made { (n : ℕ) × HasMade fills n result.1.made }
+        ensures made { result.1.made ≡ Some (Begun, Filled) }
         ensures offer { (result.1.tie ≡ offer.entry.tie) × (result.1.about ≡ offer.entry.about) }
     {
         let Pen {
@@ -217,7 +214,7 @@ impl<'a, T> Pen<'a, T, First> {
         requires step { (offer.step ≡ breaks) × (offer.made ≡ None) }
         ensures offset { result.0.offset ≡ self.entry.offset }
         ensures name { result.0.name ≡ self.entry.cell.broken_name }
-        ensures made { (n : ℕ) × HasMade breaks n result.1.made }
+        ensures made { result.1.made ≡ Some (Begun, Broken) }
         ensures offer { (result.1.tie ≡ offer.entry.tie) × (result.1.about ≡ offer.entry.about) }
     {
         let Pen {
@@ -245,7 +242,7 @@ impl<'a, T> Pen<'a, T, Tied> {
         ensures value { result.0.value ≡ value }
         ensures name { result.0.name ≡ self.entry.cell.value_name }
         ensures found { result.0.found ≡ self.entry.found }
-        ensures made { (n : ℕ) × HasMade fills n result.1.made }
+        ensures made { result.1.made ≡ Some (Mending, Filled) }
         ensures offer { (result.1.tie ≡ offer.entry.tie) × (result.1.about ≡ offer.entry.about) }
     {
         let Pen {
@@ -263,7 +260,7 @@ impl<'a, T> Pen<'a, T, Tied> {
         requires step { (offer.step ≡ breaks) × (offer.made ≡ None) }
         ensures offset { result.0.offset ≡ self.entry.offset }
         ensures name { result.0.name ≡ self.entry.cell.broken_name }
-        ensures made { (n : ℕ) × HasMade breaks n result.1.made }
+        ensures made { result.1.made ≡ Some (Mending, Broken) }
         ensures offer { (result.1.tie ≡ offer.entry.tie) × (result.1.about ≡ offer.entry.about) }
     {
         let Pen {

@@ -4,6 +4,7 @@ ghost use Rattle.std.specs.Prelude.{Bool, true, false, Some, None, ◌≡◌, �
 ghost use base.Stored.{coded_bool, coded_list};
 ghost use Rattle.tie_core.specs.Tie.{Idle, Begun, Filled, begins, fills};
 ghost use Rattle.cell_core.specs.Fields.{sums};
+ghost use Rattle.cell_core.specs.Fixed.{ShowStages};
 ghost use Rattle.cell_core.specs.Slot.{Names, ArePlain, names_coded, empty_state};
 ghost use Rattle.cell_core.specs.Run.{AreEmptyIn, AreFilledIn, AreTiedTo, cells_owned, run_owned, sights_owned, members_of};
 
@@ -97,7 +98,7 @@ impl<'a, T> RawCells<'a, T> {
     #[inline(always)]
     pub(crate) fn sight(self) -> (u64, RawSights<T>)
         ensures { (result.1.of ≡ self.entry.of) × (result.1.index ≡ self.entry.index)
-            × (result.1.word ≡ result.0) }
+            × (result.1.word ≡ result.0) × ShowStages self.entry.of self.entry.index result.0 }
     {
         let RawCells {
             word,

@@ -5,8 +5,9 @@ ghost use base.Stored.{coded_bool};
 ghost use denote.Sharing.{said};
 ghost use Rattle.std.specs.Coded.{coded_option};
 ghost use Rattle.cell_core.specs.Fields.{field};
-ghost use Rattle.tie_core.specs.Tie.{HasMade, begins, breaks, fills, looks, mends};
-ghost use Rattle.cell_core.specs.Slot.{Names, IsPlain, names_coded, break_added, fill_added, slot_owned, pen_owned, sighted, written, was_broken};
+ghost use Rattle.cell_core.specs.Fixed.{ShowsStage};
+ghost use Rattle.tie_core.specs.Tie.{Filled, Broken, HasMade, begins, breaks, fills, looks, mends};
+ghost use Rattle.cell_core.specs.Slot.{Names, IsPlain, ShowsOwner, names_coded, break_added, fill_added, writer_stage, slot_owned, pen_owned, sighted, written, was_broken};
 ghost use Rattle.cell_core.specs.Slot.{empty_state, busy_state, filled_state, broken_state, owner_broken_state};
 ghost use Rattle.cell_core.specs.Member.{HasNames, IsStateOf, MayBeStateOf, IsEpochOf};
 
@@ -170,16 +171,6 @@ impl<'a, T> RawSlot<'a, T> {
         (found, sight)
     }
 
-    // The same of a cell that is not tied, so that nobody else need know of the look.
-    #[inline(always)]
-    pub(crate) fn look(self) -> (u64, RawSight<T>)
-        requires { IsPlain self.of }
-        ensures { (result.1.of ≡ self.entry.of)
-            × (result.1.found ≡ field result.0 self.entry.index) }
-    {
-        self.sight()
-    }
-
     // The word, and what the state of a tied cell shows. The caller's update runs in the load.
     #[inline(always)]
     pub(crate) fn sight_for<'b, X, K: Book<X>>(
@@ -236,7 +227,8 @@ impl<'a, T> RawSlot<'a, T> {
             × (result.1.found ≡ field result.0 self.entry.index)
             × (result.2.tie ≡ offer.entry.tie) × (result.2.about ≡ offer.entry.about)
             × (result.2.step ≡ offer.entry.step)
-            × HasMade mends (field result.0 self.entry.index) result.2.made }
+            × HasMade mends (field result.0 self.entry.index) result.2.made
+            × ShowsOwner self.entry.of.tied (field result.0 self.entry.index) }
     {
         let RawSlot { word, room, marker } = self;
         let found = unsafe { raw::fetch_and::<Brand>(word, mask, SeqCst) };
@@ -260,7 +252,8 @@ impl<'a, T> RawSlot<'a, T> {
     pub(crate) fn known(self, member: &RawMember<T>) -> (u64, RawSight<T>)
         requires { HasNames self.of member.now.of.value member.now.of.name member.now.of.epoch }
         ensures { (result.1.of ≡ self.entry.of) × (result.1.found ≡ field result.0 self.entry.index)
-            × MayBeStateOf member.now.of.value (field result.0 self.entry.index) }
+            × MayBeStateOf member.now.of.value (field result.0 self.entry.index)
+            × ShowsStage self.entry.of (field result.0 self.entry.index) }
     {
         let RawSlot {
             word,
@@ -339,7 +332,7 @@ impl<'a, T> RawPen<'a, T> {
         ensures { (result.0.of ≡ self.entry.of.value_name) × (result.0.value ≡ item)
             × (result.0.found ≡ self.entry.found) × (result.1.tie ≡ offer.entry.tie)
             × (result.1.about ≡ offer.entry.about) × (result.1.step ≡ offer.entry.step)
-            × ((n : ℕ) × HasMade fills n result.1.made) }
+            × (result.1.made ≡ Some (writer_stage self.entry.first, Filled)) }
     {
         let RawPen {
             word,
@@ -365,7 +358,7 @@ impl<'a, T> RawPen<'a, T> {
             × (self.of.tied ≡ Some offer.tie) × (offer.step ≡ breaks) × (offer.made ≡ None) }
         ensures { (result.0.of ≡ self.entry.of.broken_name) × (result.1.tie ≡ offer.entry.tie)
             × (result.1.about ≡ offer.entry.about) × (result.1.step ≡ offer.entry.step)
-            × ((n : ℕ) × HasMade breaks n result.1.made) }
+            × (result.1.made ≡ Some (writer_stage self.entry.first, Broken)) }
     {
         let RawPen {
             word,

@@ -7,10 +7,10 @@ ghost use Rattle.claim_core.specs.Hand.{IsHandOf, IsWholeHand, OwnsPlace, seen_s
 ghost use Rattle.claim_core.specs.Gain.{IsEntryTo, IsTiedTo};
 ghost use Rattle.claim_core.specs.Plays.{block_view};
 ghost use Rattle.claim_core.specs.Ties.{Finds};
-ghost use Rattle.memory_tests.specs.Offers.{HasFilled, HasLooked};
+ghost use Rattle.memory_tests.specs.Offers.{HasFilled, HasLooked, HasTried};
 
 use atomic_table::Badge;
-use cell_core::block::{Block, Look, Placed, Tied};
+use cell_core::block::{Block, Found, Look, Pen, Placed, Tied};
 use claim_core::{BlockSeat, CellTag, EntryAt, Hand, RowTag, Word, laws};
 use std::alloc::{Allocator, Global};
 use std::marker::Brand;
@@ -66,6 +66,30 @@ fn fill_own<A: Allocator>(
     let (placed, offer) = pen.fill_for(place, offer);
     hand.take_back(offer);
     placed
+}
+
+// A try to mend a place that the hand has seen is logged as the mend, or as a look at what the cell shows. The cell has a
+// seat, so it was not broken by an owner.
+fn try_mend<'a, A: Allocator>(
+    word: &Word<A>,
+    hand: &mut Hand,
+    cells: &'a Block<u64, Global, Tied>,
+    tag: &CellTag,
+    offset: u64,
+    place: u64,
+) -> Result<Pen<'a, u64, Tied>, Found<u64>>
+    requires ours { IsHandOf word.now hand.old }
+    requires within { offset < block_len cells.now }
+    requires cell { (cell_at cells.now offset).tied ≡ Some tag.now.tie }
+    requires tied { IsTiedTo word.now tag.now.tie }
+    requires found { Finds hand.old.rows place tag.now.tie.id }
+    requires seen { place < seen_size hand.old }
+    ensures tried { HasTried place hand.old hand.new result }
+{
+    let offer = hand.offer_mend(word, tag, place);
+    let (taken, offer) = cells.mend_for(offset, offer);
+    hand.take_back(offer);
+    taken
 }
 
 // A hand lends its seat to the exchange that sets an entry to a block. Both seats are lost with the visit, and

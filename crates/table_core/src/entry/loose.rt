@@ -22,7 +22,9 @@ impl<B: Drop, A: Allocator> Loose<B, A> {
         let (at, alloc) = Box::into_raw_with_allocator(value);
         Loose { at, alloc }
     }
+}
 
+impl<B, A: Allocator> Loose<B, A> {
     pub(crate) fn into_box(self) -> Box<B, A>
         ensures { result.value ≡ self.value }
     {

@@ -8,7 +8,7 @@ ghost use Rattle.std.specs.Sync.Atomic.Pointer.{atomic_ptr_value, atomic_ptr_hol
 ghost use Rattle.std.specs.declared.option.Option.{Option};
 ghost use Rattle.std.specs.declared.option.Option.TheVariants.{None, Some};
 ghost use Rattle.tie_core.specs.Tie.{Tie};
-ghost use Rattle.table_core.specs.Entry.{EntryView, entry_coded, noted, Agrees, length_of, name_of, tie_of, mould_at};
+ghost use Rattle.table_core.specs.Entry.{EntryView, FitsEntry, IsCast, IsPlainEntry, entry_coded, noted, Agrees, bond_of, length_of, name_of, tie_of, mould_at, plain_mould};
 ghost use Rattle.table_core.specs.TiedEntry.{entry_owned, entry_shared};
 
 mod tied;
@@ -66,14 +66,28 @@ impl<B> Model for EntrySight<B> {
 impl<B: Measured> Entry<B> {
     // An entry for blocks of this length, which only proofs read. It is not tied, and nothing is installed.
     pub(crate) fn new(alloc: Global, length: u64) -> Entry<B>
-        ensures { (length_of result ≡ length) × (tie_of result ≡ None) }
+        ensures { (length_of result ≡ length) × (bond_of result ≡ None) }
     {
         Entry::empty(AtomicPtr::new(null_mut()), alloc, length)
     }
 
     fn empty(word: AtomicPtr<B>, alloc: Global, length: u64) -> Entry<B>
         requires { atomic_ptr_value word ≡ null_ptr }
-        ensures { (length_of result ≡ length) × (tie_of result ≡ None) }
+        ensures { (length_of result ≡ length) × (bond_of result ≡ None) }
+    {
+        Entry { word, alloc }
+    }
+
+    // The same, for blocks whose cells are not tied.
+    pub(crate) fn new_plain(alloc: Global, length: u64) -> Entry<B>
+        ensures { (length_of result ≡ length) × IsPlainEntry result }
+    {
+        Entry::empty_plain(AtomicPtr::new(null_mut()), alloc, length)
+    }
+
+    fn empty_plain(word: AtomicPtr<B>, alloc: Global, length: u64) -> Entry<B>
+        requires { atomic_ptr_value word ≡ null_ptr }
+        ensures { (length_of result ≡ length) × IsPlainEntry result }
     {
         Entry { word, alloc }
     }
@@ -95,6 +109,8 @@ impl<B: Measured> Entry<B> {
         ensures block { MatchOption result ((sight.old.known ≡ None) × (sight.new.known ≡ None))
             (λ b. (sight.new.known ≡ Some b.now) × Agrees sight.old.known b.now) }
         ensures length { IfSome result (λ b. B.measure b.now ≡ length_of self.now) }
+        ensures mould { IfSome result (λ b. FitsEntry self.now (B.mould b.now)) }
+        ensures cast { IfSome result (λ b. IsCast B.measure B.mould self.now b.now) }
     {
         let at = unsafe { self.word.load::<Brand>(SeqCst) };
         if at.is_null() {
@@ -112,7 +128,7 @@ impl<B: Measured> Entry<B> {
         sight: &mut EntrySight<B>,
     ) -> (&'a B, Option<Loose<B, Global>>)
         requires of { sight.old.of ≡ name_of self.now }
-        requires length { B.measure block.value ≡ length_of self.now }
+        requires cast { IsCast B.measure B.mould self.now block.value }
         requires plain { tie_of self.now ≡ None }
         ensures same { sight.new.of ≡ sight.old.of }
         ensures block { (sight.new.known ≡ Some result.0.now)
@@ -121,6 +137,7 @@ impl<B: Measured> Entry<B> {
             ((result.0.now ≡ block.value) × (sight.old.known ≡ None))
             (λ l. l.value ≡ block.value) }
         ensures length { B.measure result.0.now ≡ length_of self.now }
+        ensures cast { IsCast B.measure B.mould self.now result.0.now }
     {
         let at = block.at;
         match unsafe {
@@ -139,7 +156,7 @@ impl<B: Measured> Entry<B> {
     pub(crate) fn rename(&mut self, other: &mut Entry<B>)
         ensures { (name_of self.new ≢ name_of other.old) × (length_of self.new ≡ length_of self.old)
             × (tie_of self.new ≡ tie_of self.old) × (mould_at self.new ≡ mould_at self.old)
-            × (other.new ≡ other.old) }
+            × (bond_of self.new ≡ bond_of self.old) × (other.new ≡ other.old) }
     {}
 
     // Takes the pointer of a box out.
@@ -155,7 +172,23 @@ impl<B: Measured> Entry<B> {
     fn full(word: AtomicPtr<B>, block: Loose<B, Global>) -> (Entry<B>, EntrySight<B>)
         requires { atomic_ptr_value word ≡ block.at }
         ensures length { length_of result.0 ≡ B.measure block.value }
-        ensures plain { tie_of result.0 ≡ None }
+        ensures loose { bond_of result.0 ≡ None }
+        ensures of { result.1.of ≡ name_of result.0 }
+        ensures known { result.1.known ≡ Some block.value }
+    {
+        let Loose { at: _, alloc } = block;
+        let sight = EntrySight {
+            marker: PhantomData,
+        };
+        (Entry { word, alloc }, sight)
+    }
+
+    // The same, for a block whose cells are not tied.
+    fn full_plain(word: AtomicPtr<B>, block: Loose<B, Global>) -> (Entry<B>, EntrySight<B>)
+        requires { (atomic_ptr_value word ≡ block.at)
+            × (B.mould block.value ≡ plain_mould (B.measure block.value)) }
+        ensures length { length_of result.0 ≡ B.measure block.value }
+        ensures plain { IsPlainEntry result.0 }
         ensures of { result.1.of ≡ name_of result.0 }
         ensures known { result.1.known ≡ Some block.value }
     {
@@ -170,6 +203,7 @@ impl<B: Measured> Entry<B> {
     fn into_loose(self, sight: &EntrySight<B>) -> Option<Loose<B, Global>>
         requires { sight.now.of ≡ name_of self }
         ensures length { IfSome result (λ l. B.measure l.value ≡ length_of self) }
+        ensures cast { IfSome result (λ l. IsCast B.measure B.mould self l.value) }
         ensures block { MatchOption result (sight.now.known ≡ None)
             (λ l. Agrees sight.now.known l.value) }
     {
@@ -192,7 +226,7 @@ impl<B: Measured + Drop> Entry<B> {
         sight: &mut EntrySight<B>,
     ) -> (&'a B, Option<Box<B>>)
         requires of { sight.old.of ≡ name_of self.now }
-        requires length { B.measure block.value ≡ length_of self.now }
+        requires cast { IsCast B.measure B.mould self.now block.value }
         requires plain { tie_of self.now ≡ None }
         ensures same { sight.new.of ≡ sight.old.of }
         ensures block { (sight.new.known ≡ Some result.0.now)
@@ -201,6 +235,7 @@ impl<B: Measured + Drop> Entry<B> {
             ((result.0.now ≡ block.value) × (sight.old.known ≡ None))
             (λ b. b.value ≡ block.value) }
         ensures length { B.measure result.0.now ≡ length_of self.now }
+        ensures cast { IsCast B.measure B.mould self.now result.0.now }
     {
         let (first, back) = self.offer(Loose::of(block), sight);
         match back {
@@ -212,7 +247,7 @@ impl<B: Measured + Drop> Entry<B> {
     // An entry that is set to the block, which the sight knows.
     pub(crate) fn filled(block: Box<B>) -> (Entry<B>, EntrySight<B>)
         ensures length { length_of result.0 ≡ B.measure block.value }
-        ensures plain { tie_of result.0 ≡ None }
+        ensures loose { bond_of result.0 ≡ None }
         ensures of { result.1.of ≡ name_of result.0 }
         ensures known { result.1.known ≡ Some block.value }
     {
@@ -220,16 +255,40 @@ impl<B: Measured + Drop> Entry<B> {
         Entry::full(AtomicPtr::new(at), block)
     }
 
+    // The same, for a block whose cells are not tied.
+    pub(crate) fn filled_plain(block: Box<B>) -> (Entry<B>, EntrySight<B>)
+        requires { B.mould block.value ≡ plain_mould (B.measure block.value) }
+        ensures length { length_of result.0 ≡ B.measure block.value }
+        ensures plain { IsPlainEntry result.0 }
+        ensures of { result.1.of ≡ name_of result.0 }
+        ensures known { result.1.known ≡ Some block.value }
+    {
+        let (at, block) = Entry::pointer(Loose::of(block));
+        Entry::full_plain(AtomicPtr::new(at), block)
+    }
+
     // Takes the block out of an entry that the caller has whole: the sight's block, if it knows one.
     pub(crate) fn into_box(self, sight: &EntrySight<B>) -> Option<Box<B>>
         requires { sight.now.of ≡ name_of self }
         ensures length { IfSome result (λ b. B.measure b.value ≡ length_of self) }
+        ensures cast { IfSome result (λ b. IsCast B.measure B.mould self b.value) }
         ensures block { MatchOption result (sight.now.known ≡ None)
             (λ b. Agrees sight.now.known b.value) }
     {
         match self.into_loose(sight) {
             Some(block) => Some(block.into_box()),
             None => None,
+        }
+    }
+}
+
+impl<T, B: Kind> Entry<Block<T, Global, B>> {
+    // Frees the block of an entry that the caller has whole, if it is set. No value of it is dropped.
+    pub(crate) fn free(self) {
+        let sight = self.sight();
+        match self.into_loose(&sight) {
+            Some(block) => Box::into_inner(block.into_box()).free(),
+            None => {}
         }
     }
 }

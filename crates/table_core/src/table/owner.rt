@@ -1,11 +1,12 @@
 // Calls of an exclusive owner of the blocks.
 ghost use Rattle.std.specs.Prelude.{◌≡◌, ◌≢◌, ◌<◌, Some, None, slice_index, MatchOption, IfSome, IsSome, IsTrue};
-ghost use Rattle.table_core.specs.Entry.{Agrees};
-ghost use Rattle.table_core.specs.Table.{IsBlockOf, IsKeyIn, IsKeyOf, KeepsOtherBonds, KeepsOtherEntries, RenewsEntry, entry_tie};
+ghost use Rattle.cell_core.specs.Slot.{ArePlain};
+ghost use Rattle.table_core.specs.Entry.{Agrees, IsSoft, bond_of, length_of, tie_of};
+ghost use Rattle.table_core.specs.Table.{IsBlockOf, IsKeyIn, IsKeyOf, IsLengthOf, IsPlainAt, KeepsOtherBonds, KeepsOtherEntries, RenewsEntry, entry_bond, entry_tie};
 ghost use Rattle.seg_core.specs.Segment.{segment_count};
 
 use crate::entry::{Entry, EntrySight};
-use crate::table::{Key, Table, empty_entry};
+use crate::table::{Key, Table, empty_entry, plain_entry};
 use cell_core::block::{Block, Kind, Plain};
 use seg_core::Layout;
 use std::alloc::Global;
@@ -37,6 +38,23 @@ fn has_length_of<T, B: Kind>(lent: &Option<Lent<T, B>>, layout: Layout, segment:
     }
 }
 
+impl<T, B: Kind> Table<T, B> {
+    // Frees the block that is lent, if one is. No value of it is dropped.
+    #[tactic(auto, using(crate::proofs::Bonds::lending))]
+    pub(crate) fn free_lent(&mut self)
+        ensures layout { self.new.layout ≡ self.old.layout }
+        ensures names { self.new.names ≡ self.old.names }
+        ensures bonds { self.new.bonds ≡ self.old.bonds }
+        ensures none_lent { self.new.lent ≡ None }
+    {
+        self.out = None;
+        match self.lent.take() {
+            Some(Lent { block }) => Box::into_inner(block).free(),
+            None => {}
+        }
+    }
+}
+
 impl<T: Drop, B: Kind> Table<T, B> {
     ghost use Rattle.std.specs.Borrow.{sem};
     ghost use Rattle.table_core.specs.Lending.{LendsBlock};
@@ -59,29 +77,36 @@ impl<T: Drop, B: Kind> Table<T, B> {
         }
     }
 
-    // Makes the entry a new one, and gives the block that it had, or that was lent of it: for a sight of it
-    // that knows a block, that one.
-    #[tactic(auto, using(crate::proofs::Bonds::replaced))]
+    // Puts the new entry in the place of one, under a fresh name, and gives the block that the old one had, or that
+    // was lent of it: for a sight of it that knows a block, that one.
+    #[tactic(auto, using(crate::proofs::Bonds::replaced, crate::proofs::PlainBlocks::found_plain))]
     fn take_out(
         &mut self,
         segment: u32,
         sight: &EntrySight<Block<T, Global, B>>,
+        fresh: Entry<Block<T, Global, B>>,
     ) -> Option<Box<Block<T, Global, B>>>
         requires within { segment < segment_count self.old.layout }
         requires of { slice_index self.old.names segment ≡ sight.now.of }
+        requires long { IsLengthOf self.old.layout segment (length_of fresh) }
+        requires untied { tie_of fresh ≡ None }
+        requires soft { IsSoft fresh }
         ensures layout { self.new.layout ≡ self.old.layout }
         ensures others { KeepsOtherEntries self.old self.new segment }
         ensures another { RenewsEntry self.old self.new segment }
         ensures bonds { KeepsOtherBonds self.old self.new segment }
+        ensures bond { entry_bond self.new segment ≡ bond_of fresh }
         ensures untied { entry_tie self.new segment ≡ None }
         ensures none_lent { self.new.lent ≡ None }
         ensures length { IfSome result (λ block. IsBlockOf self.old.layout segment block.value) }
+        ensures plain { IsPlainAt self.old segment
+            → IfSome result (λ block. ArePlain block.value.cells) }
         ensures block { MatchOption result (sight.now.known ≡ None)
             (λ block. Agrees sight.now.known block.value) }
     {
         self.put_back();
         self.held = None;
-        let mut new: Entry<Block<T, Global, B>> = empty_entry(self.alloc, self.layout, segment);
+        let mut new = fresh;
         new.rename(&mut self.entries[segment as usize]);
         replace(&mut self.entries[segment as usize], new).into_box(sight)
     }
@@ -99,7 +124,7 @@ impl<T: Drop, B: Kind> Table<T, B> {
     }
 
     // The block of the entry, taken out of it or out before.
-    #[tactic(auto, using(crate::proofs::Bonds::lending))]
+    #[tactic(auto, using(crate::proofs::Bonds::lending, crate::proofs::Bonds::loose_untied, crate::proofs::Bonds::loose_soft))]
     fn lend(&mut self, segment: u32) -> Option<Lent<T, B>>
         requires { segment < segment_count self.old.layout }
         ensures layout { self.new.layout ≡ self.old.layout }
@@ -112,7 +137,9 @@ impl<T: Drop, B: Kind> Table<T, B> {
             return self.lent.take();
         }
         let sight = self.sight(segment);
-        match self.take_out(segment, &sight) {
+        // The block is lent, so nothing is known of its cells when it comes back.
+        let new = empty_entry(self.alloc, self.layout, segment);
+        match self.take_out(segment, &sight, new) {
             Some(block) => {
                 self.out = Some(segment);
                 Some(Lent { block })
@@ -172,6 +199,7 @@ impl<T: Drop, B: Kind> Table<T, B> {
 
     /// Takes the key's block out of its entry, which is then not set and has a fresh name and no tie. It takes no
     /// memory.
+    #[tactic(auto, using(crate::proofs::PlainBlocks::renewed_plain))]
     pub fn detach(&mut self, key: &Key) -> Box<Block<T, Global, B>>
         requires { IsKeyIn self.old key.now }
         ensures block { result.value ≡ key.now.block }
@@ -182,9 +210,13 @@ impl<T: Drop, B: Kind> Table<T, B> {
         ensures bonds { KeepsOtherBonds self.old self.new key.now.segment }
         ensures untied { entry_tie self.new key.now.segment ≡ None }
         ensures none_lent { self.new.lent ≡ None }
+        // The entry is then plain. If it was plain before, the cells of its block are not tied.
+        ensures plain { IsPlainAt self.new key.now.segment }
+        ensures plain_cells { IsPlainAt self.old key.now.segment → ArePlain result.value.cells }
     {
         let sight = key.sight.again();
-        match self.take_out(key.segment(), &sight) {
+        let new = plain_entry(self.alloc, self.layout, key.segment());
+        match self.take_out(key.segment(), &sight, new) {
             Some(block) => block,
             None => unreachable!(),
         }
@@ -214,6 +246,7 @@ impl<T: Drop, B: Kind> Table<T, B> {
     }
 
     /// Drops the entry's block. The entry is then not set and has a fresh name and no tie.
+    #[tactic(auto, using(crate::proofs::PlainBlocks::renewed_plain))]
     pub fn give_up(&mut self, segment: u32)
         requires { segment < segment_count self.old.layout }
         ensures layout { self.new.layout ≡ self.old.layout }
@@ -222,8 +255,10 @@ impl<T: Drop, B: Kind> Table<T, B> {
         ensures bonds { KeepsOtherBonds self.old self.new segment }
         ensures untied { entry_tie self.new segment ≡ None }
         ensures none_lent { self.new.lent ≡ None }
+        ensures plain { IsPlainAt self.new segment }
     {
         let sight = self.entries[segment as usize].sight();
-        drop(self.take_out(segment, &sight));
+        let new = plain_entry(self.alloc, self.layout, segment);
+        drop(self.take_out(segment, &sight, new));
     }
 }

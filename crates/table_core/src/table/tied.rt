@@ -1,14 +1,16 @@
 // Calls on entries that are tied to a table of `atomic_table`. A step on such an entry runs a visit of its caller.
-ghost use Rattle.std.specs.Prelude.{◌≡◌, ◌<◌, ℕ, Some, None, IfSome, option_map, slice_index};
+ghost use Rattle.std.specs.Prelude.{◌≡◌, ◌<◌, ℕ, Some, None, IfOk, IfSome, option_map, slice_index};
 ghost use Rattle.cell_core.specs.Mould.{last_seat};
 ghost use Rattle.seg_core.specs.Segment.{segment_count};
-ghost use Rattle.table_core.specs.Table.{HasSet, IsKeyOf, IsTiedBlockOf, IsTiedBy, KeepsOtherBonds, KeepsOtherEntries, RenewsEntry, content_in, entry_tie};
+ghost use Rattle.cell_core.specs.Slot.{ArePlain};
+ghost use Rattle.table_core.specs.Table.{HasSet, IsBlockOf, IsKeyOf, IsPlainAt, IsTiedBlockOf, IsTiedBy, KeepsOtherBonds, KeepsOtherEntries, RenewsEntry, content_in, entry_tie};
 
 use crate::entry::{Entry, EntrySight};
 use crate::table::{Key, Table};
 use cell_core::block::{Block, Tied};
 use seg_core::Layout;
-use std::alloc::Global;
+use std::alloc::{AllocError, Global};
+use std::mem::replace;
 use tie_core::{EntryBook, EntrySeat, Staged, Tag, Visit};
 
 impl<T> Table<T, Tied> {
@@ -16,6 +18,7 @@ impl<T> Table<T, Tied> {
     pub fn new_for(alloc: Global, layout: Layout) -> Table<T, Tied>
         ensures layout { result.layout ≡ layout }
         ensures untied { (k : ℕ) → k < segment_count layout → entry_tie result k ≡ None }
+        ensures plain { (k : ℕ) → k < segment_count layout → IsPlainAt result k }
     {
         Table::without_blocks(alloc, layout)
     }
@@ -67,11 +70,10 @@ impl<T> Table<T, Tied> {
             None => (None, visit),
         }
     }
-}
 
-impl<T: Drop> Table<T, Tied> {
     /// Ties the entry by its own seat, and the cells of its block by seats with numbers in a row, which have the codes
-    /// of the tag. The entry is then not set and has a fresh name: a block that it was set to is dropped.
+    /// of the tag. The entry is then not set and has a fresh name. A block that it was set to is freed, and so is one
+    /// that is lent: their values are not dropped.
     #[tactic(auto, using(crate::proofs::Bonds::retied))]
     pub fn tie<V, P: Staged<V>>(&mut self, segment: u32, seat: EntrySeat, cells: &Tag<V, P>)
         requires { segment < segment_count self.old.layout }
@@ -82,15 +84,73 @@ impl<T: Drop> Table<T, Tied> {
         ensures bonds { KeepsOtherBonds self.old self.new segment }
         ensures none_lent { self.new.lent ≡ None }
     {
-        self.put_back();
+        self.free_lent();
         self.held = None;
         let len = self.layout.len(segment);
         let mut new: Entry<Block<T, Global, Tied>> = Entry::new_for(self.alloc, len, seat, cells);
         new.rename(&mut self.entries[segment as usize]);
-        self.entries[segment as usize] = new;
+        replace(&mut self.entries[segment as usize], new).free();
+    }
+}
+
+impl<T: Drop> Table<T, Tied> {
+    // The block of an entry that is not tied: a new one, unless the entry is set.
+    #[tactic(auto, using(crate::proofs::PlainBlocks::found_plain))]
+    fn set<'a>(
+        &'a self,
+        segment: u32,
+        sight: &mut EntrySight<Block<T, Global, Tied>>,
+    ) -> Result<&'a Block<T, Global, Tied>, AllocError>
+        requires within { segment < segment_count self.now.layout }
+        requires untied { entry_tie self.now segment ≡ None }
+        requires of { slice_index self.now.names segment ≡ sight.old.of }
+        ensures same { sight.new.of ≡ sight.old.of }
+        ensures known { IfOk result (λ block. sight.new.known ≡ Some block.now) }
+        ensures length { IfOk result (λ block. IsBlockOf self.now.layout segment block.now) }
+        ensures plain { IsPlainAt self.now segment → IfOk result (λ block. ArePlain block.now.cells) }
+    {
+        match self.entries[segment as usize].look(sight) {
+            Some(block) => Ok(block),
+            None => {
+                let block = Block::new_plain(self.alloc, self.layout.len(segment))?;
+                self.put(segment, block, sight)
+            }
+        }
     }
 
-    // The entry's block: the given one, unless the entry is set.
+    /// Returns the block of an entry that is not tied, and makes and sets it if there is none. The cells of a block that
+    /// this call makes are not tied. If another call comes first, this call frees its own block at once and returns the
+    /// other's. A refused call never sets an entry.
+    pub fn install(&self, segment: u32) -> Result<&Block<T, Global, Tied>, AllocError>
+        requires within { segment < segment_count self.now.layout }
+        requires untied { entry_tie self.now segment ≡ None }
+        ensures length { IfOk result (λ block. IsBlockOf self.now.layout segment block.now) }
+        // The cells of a plain entry's block are not tied.
+        ensures plain { IsPlainAt self.now segment → IfOk result (λ block. ArePlain block.now.cells) }
+    {
+        self.set(segment, &mut self.entries[segment as usize].sight())
+    }
+
+    /// Returns the entry's block like `install`, with the entry's key.
+    pub fn install_key(&self, segment: u32) -> Result<(&Block<T, Global, Tied>, Key), AllocError>
+        requires within { segment < segment_count self.now.layout }
+        requires untied { entry_tie self.now segment ≡ None }
+        ensures length { IfOk result (λ (block, _). IsBlockOf self.now.layout segment block.now) }
+        ensures key { IfOk result (λ (block, key). IsKeyOf self.now segment block.now key) }
+        ensures plain { IsPlainAt self.now segment
+            → IfOk result (λ (block, _). ArePlain block.now.cells) }
+    {
+        let mut sight = self.entries[segment as usize].sight();
+        let block = self.set(segment, &mut sight)?;
+        let key = Key {
+            layout: self.layout,
+            segment: segment as u8,
+            sight: sight.again(),
+        };
+        Ok((block, key))
+    }
+
+    // The block of a tied entry: the given one, unless the entry is set.
     fn set_for<'a, 'b, X, K: EntryBook<X>>(
         &'a self,
         segment: u32,
@@ -111,13 +171,15 @@ impl<T: Drop> Table<T, Tied> {
     {
         let entry = &self.entries[segment as usize];
         let (first, back, visit) = entry.set_for(block, sight, visit);
-        drop(back);
+        if let Some(back) = back {
+            Box::into_inner(back).free();
+        }
         (first, visit)
     }
 
-    /// Sets the entry to the block and returns it, by one exchange. If the entry is set already, this drops the block
-    /// and returns the entry's. The visit brings the block's seat. Its update runs in the exchange, and the visit then
-    /// tells what the exchange found.
+    /// Sets the entry to the block and returns it, by one exchange. If the entry is set already, this frees the block,
+    /// without a look at its cells, and returns the entry's. The visit brings the block's seat. Its update runs in the
+    /// exchange, and the visit then tells what the exchange found.
     pub fn install_for<'a, 'b, X, K: EntryBook<X>>(
         &'a self,
         segment: u32,

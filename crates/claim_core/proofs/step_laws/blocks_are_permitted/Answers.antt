@@ -1,4 +1,4 @@
-use Rattle.claim_core.proofs.Permits.{permits_laying, permits_publish}
+use Rattle.claim_core.proofs.Permits.{permits_laying, permits_publish, permits_unseen}
 use Rattle.claim_core.proofs.step_laws.blocks_are_permitted.Goals as goal
 
 pub returns-clause-laying : goal.returns-clause-laying
@@ -6,3 +6,6 @@ returns-clause-laying c = permits_laying
 
 pub returns-clause-publishing : goal.returns-clause-publishing
 returns-clause-publishing c = λ terms id entry seat from first n v hand past. permits_publish terms id v hand.limit hand.base hand.filled hand.part entry seat from first n past
+
+pub returns-clause-unseen : goal.returns-clause-unseen
+returns-clause-unseen c = λ terms id entry seat from first n v hand past. permits_unseen terms id v hand.limit hand.base hand.filled hand.part entry seat from first n past

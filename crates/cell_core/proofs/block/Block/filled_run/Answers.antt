@@ -3,7 +3,9 @@ use Rattle.cell_core.specs.Block.{BlockView, AreFilledFrom}
 use Rattle.cell_core.specs.Slot.{Names}
 use Rattle.cell_core.specs.Member.{MemberView}
 use Rattle.cell_core.specs.Run.{AreFilledIn, cells_from, members_of}
+use Rattle.cell_core.specs.Fixed.{ShowStages}
 use Rattle.cell_core.proofs.RunParts.{from_length}
+use Rattle.cell_core.proofs.StageRows.{run_at_filled, run_other_after}
 use Rattle.cell_core.proofs.SliceParts.{are_filled, members_count}
 use Rattle.cell_core.proofs.block.Block.filled_run.Goals as goal
 
@@ -30,3 +32,17 @@ returns-clause-filled g c =
     let whole : seen.of ≡ cells_from n offset block.cells = named ∙ ap (λ (b : BlockView). cells_from n offset b.cells) c.self.view_is in
     let is : c.filled-row.result.of ≡ members_of (cells_from n offset block.cells) got.0 = got.2 ∙ ap (λ (γs : List Names). members_of γs got.0) whole in
     subst (λ (ms : List (MemberView g.row.T.Denot)). AreFilledFrom block offset ms) (sym is) (are_filled block n offset got.0 c.requires.within)
+
+pub returns-clause-stages : goal.returns-clause-stages
+returns-clause-stages g c =
+    let block = c.args.self.now in let n = c.args.n in let offset = c.args.offset in let cells = c.self.inside.laid.cells in let seen = c.cells-cells.result in let word = c.sight-word.result.0 in
+    let whole : seen.of ≡ cells_from n offset block.cells = c.cells-cells.ensures.0 ∙ ap (λ (b : BlockView). cells_from n offset b.cells) c.self.view_is in
+    let shown : ShowStages (cells_from n offset block.cells) (offset % 16) word = subst (λ (u : List Names × ℕ). ShowStages u.0 u.1 word) (λ i. (whole i, c.cells-cells.ensures.1 i)) c.sight-word.ensures.3 in
+    run_at_filled block offset n (offset % 16) word c.filled_in-count.result c.filled_in-count.ensures.0 c.filled_in-count.ensures.1 shown
+
+pub returns-clause-next : goal.returns-clause-next
+returns-clause-next g c =
+    let block = c.args.self.now in let n = c.args.n in let offset = c.args.offset in let cells = c.self.inside.laid.cells in let seen = c.cells-cells.result in let word = c.sight-word.result.0 in
+    let whole : seen.of ≡ cells_from n offset block.cells = c.cells-cells.ensures.0 ∙ ap (λ (b : BlockView). cells_from n offset b.cells) c.self.view_is in
+    let shown : ShowStages (cells_from n offset block.cells) (offset % 16) word = subst (λ (u : List Names × ℕ). ShowStages u.0 u.1 word) (λ i. (whole i, c.cells-cells.ensures.1 i)) c.sight-word.ensures.3 in
+    run_other_after block offset n (offset % 16) word c.filled_in-count.result c.filled_in-count.ensures.2 shown

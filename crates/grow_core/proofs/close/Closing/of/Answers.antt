@@ -30,4 +30,5 @@ invariant_of-result-2 g c =
           (subst (λ (u : ℕ × ℕ × ℕ). HasKeysOfPlaces u.0 c.whole_keys.result.now u.1 u.2) (λ i. (sym layout i, (hand_base ∙ sym base) i, sym size i)) c.whole_keys.ensures.all)
           (omega (arith, places, base, hand_base, size)) (omega (arith, within, limit, hand_limit, size)),
       sym (ap (λ (xs : List (MemberView g.row.T.Denot)). broken_count (values_in xs)) c.new.ensures),
+      own.plain,
     )

@@ -11,6 +11,7 @@ use Rattle.grow_core.specs.Parts.{AreMembers, AreWhole, values_in}
 use Rattle.grow_core.specs.Closing.{AreSettled, ClosingView, IsKeptOf, KeepsValuesBelow}
 use Rattle.grow_core.proofs.Broken.{few_in_all}
 use Rattle.grow_core.proofs.Places.{written_cells, segment_below}
+use Rattle.grow_core.proofs.PlainSegments.{plain_put}
 use Rattle.grow_core.proofs.Settled.{key_there, known_there, kept_settled, nothing_past, settled_before, settled_broken, settled_length, settled_there, values_more}
 use Rattle.grow_core.proofs.close.Closing.settle_segment.Goals as goal
 
@@ -77,6 +78,7 @@ invariant_of-self g c =
         enough = subst (λ (l : ℕ). inside.size ≤ segment_start l inside.count) (sym same_layout) enough;
       },
       omega (arith, c.self.invariant.1, c.settle_cells.ensures.broken),
+      plain_put c.self.inside.table taken.new.table c.put_block.new.table taken.result.0 taken.ensures.layout c.put_block.ensures.layout taken.ensures.bonds c.put_block.ensures.bonds c.put_block.ensures.plain c.self.invariant.2,
     )
 
 pub overflow_add-self : goal.overflow_add-self

@@ -16,4 +16,5 @@ invariant_of-self-2 g c =
       tt,
       c.self.invariant.2,
       c.self.invariant.3,
+      c.self.invariant.4,
     )

@@ -4,6 +4,7 @@ use Rattle.std.proofs.lemmas.List.{length-map}
 use Rattle.seg_core.specs.Segment.{segment_start}
 use Rattle.cell_core.specs.Member.{MemberView}
 use Rattle.grow_core.specs.Parts.{PartsView, AreWhole, IsSpare, values_in}
+use Rattle.grow_core.proofs.PlainSegments.{plain_kept}
 use Rattle.grow_core.proofs.Places.{cut_whole}
 use Rattle.grow_core.proofs.parts.Parts.drop_segment.Goals as goal
 
@@ -20,4 +21,5 @@ invariant_of-self g c =
       tt,
       c.self.invariant.2,
       c.self.invariant.3,
+      plain_kept _ _ _ c.give_up.ensures.layout c.give_up.ensures.bonds c.give_up.ensures.plain c.self.invariant.4,
     )

@@ -12,6 +12,7 @@ use Rattle.grow_core.specs.PopSegment.{IsUnbroken, PopsValues}
 use Rattle.grow_core.proofs.Broken.{row_append, unbroken_count}
 use Rattle.grow_core.proofs.Places.{cut_whole, value_at}
 use Rattle.grow_core.proofs.PopSegment.{broken_first, fewer_whole, last_segment, popped_length, unbroken_first}
+use Rattle.grow_core.proofs.PlainSegments.{plain_kept}
 use Rattle.grow_core.proofs.parts.Parts.pop_segment.Goals as goal
 
 pub pop_values-requires-clause-members : goal.pop_values-requires-clause-members
@@ -55,6 +56,7 @@ invariant_of-self g c =
       broken_first inside.epoch known' popped.popped (subst (AreBrokenIn inside.epoch) popped.row c.self.invariant.2),
       (let none = unbroken_count (values_in known) (subst (λ (v : PartsView _). IsUnbroken v.members) (sym c.self.view_is) c.requires.unbroken) in
           let more = row_append known' popped.popped known popped.row in omega (arith, c.self.invariant.3, none, more)),
+      plain_kept _ _ _ taken.ensures.layout taken.ensures.bonds taken.ensures.plain c.self.invariant.4,
     )
 
 pub returns-clause-unbroken : goal.returns-clause-unbroken

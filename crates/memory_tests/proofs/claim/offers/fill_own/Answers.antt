@@ -1,6 +1,6 @@
 -- By the public clauses of the hand and of the cell.
-use Rattle.std.proofs.Common.{Some, ap, sym, ◌∙◌}
-use Rattle.tie_core.specs.Tie.{begins, fills}
+use Rattle.std.proofs.Common.{Some, ap, sym, ◌∙◌, subst}
+use Rattle.tie_core.specs.Tie.{IsMade, begins}
 use Rattle.memory_tests.proofs.OffersInARow.{is_made, lent_on, begun, still_found, still_seen, filled}
 use Rattle.memory_tests.proofs.claim.offers.fill_own.Goals as goal
 
@@ -60,7 +60,7 @@ fill_for-placed-requires-clause-step g c =
     (offer.1, offer.2)
 
 pub take_back-requires-2-clause-made : goal.take_back-requires-2-clause-made
-take_back-requires-2-clause-made g c = is_made fills _ c.fill_for-placed.result.1.made c.fill_for-placed.ensures.made.1
+take_back-requires-2-clause-made g c = subst IsMade (sym c.fill_for-placed.ensures.made) tt
 
 pub take_back-requires-2-clause-lent : goal.take_back-requires-2-clause-lent
 take_back-requires-2-clause-lent g c =
@@ -78,8 +78,8 @@ returns g c =
     let kept = c.fill_for-placed.ensures.offer.1 in
     let lent = lent_on (ap (λ a. a.table_id) kept) (ap (λ a. a.view) kept) c.offer_fill-offer.ensures.lent in
     let fact =
-    filled c.runs_are_apart.ensures c.events_follow.ensures c.fill_for-placed.result.1.about.told c.args.place _ _ _ c.fill_for-placed.result.1.about.view
-    c.fill_for-placed.result.1.made c.args.hand.now c.take_back.new.self c.take_back-2.new.self c.requires.own first lent.seat c.fill_for-placed.ensures.made.1
+    filled c.runs_are_apart.ensures c.events_follow.ensures c.fill_for-placed.result.1.about.told c.args.place _ _ c.fill_for-placed.result.1.about.view
+    c.fill_for-placed.result.1.made c.args.hand.now c.take_back.new.self c.take_back-2.new.self c.requires.own first lent.seat c.fill_for-placed.ensures.made
     (ap (λ a. a.told) kept ∙ c.offer_fill-offer.ensures.offer.3)
     (c.take_back-2.ensures.gained c.take_back.new.self lent) in
     record { filled = fact }

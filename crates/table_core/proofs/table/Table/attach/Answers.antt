@@ -10,6 +10,6 @@ invariant_of-self g c =
     let here = subst (IsLengthOf c.self.inside.layout c.args.segment) (sym c.filled-entry.ensures.length) long in (
       c.self.invariant.0,
       fit_set c.self.inside.layout c.self.inside.entries c.args.segment c.filled-entry.result.0 c.self.invariant.1 here,
-      kind_set _ _ _ c.self.inside.entries c.args.segment c.filled-entry.result.0 c.self.invariant.2 c.filled-entry.ensures.plain,
+      kind_set _ _ _ c.self.inside.entries c.args.segment c.filled-entry.result.0 c.self.invariant.2 c.filled-entry.ensures.loose,
       λ held none. absurd (none-some held none),
     )

@@ -52,9 +52,12 @@ use denote.Plain.{uint_vals, uint_Tells}
 use denote.Triple.Walked.{Stays, stay_dropped, stay_ref, walk_of, Goes-dropped, Goes-ref}
 use Rattle.core.proofs.atomic.Steps.{tail}
 use Rattle.atomic_table.proofs.Walks.{proved, leaves}
-use Rattle.cell_core.specs.Slot.{Names, Rest, cell_in, state, step, room_at, word, resting, mark}
+use Rattle.cell_core.specs.Slot.{Names, Rest, cell_in, stage, state, step, room_at, word, resting, mark}
 use Rattle.cell_core.specs.Laid.{Extent, laid, still, lying, IsLinked, IsFixedAt}
 use Rattle.tie_core.specs.Tie.{Broken}
+use Rattle.cell_core.specs.Fixed.{HasValueByStage}
+use Rattle.cell_core.proofs.Stages.{AgreesAt, shown_at, value_by_state, no_value_by_stage}
+use Rattle.cell_core.proofs.FixedCells.{still_at}
 use Rattle.cell_core.specs.contracts.block.steps.Laid as loose
 use Rattle.cell_core.proofs.LaidParts as parts
 use Rattle.cell_core.specs.contracts.block.steps.Laid.settle.{ended, clauses}
@@ -88,6 +91,7 @@ settle_spec 𝓤 𝓛 𝓜 𝓡 wired T Al L _ ga da dd _ _ =
     use1 𝓛 (given (parts.Near 𝓛 R token x j) (some (λ (w : List Names × ℕ). given (parts.IsIn R cs e j w) (‵ (still R w.0 b (k' * 8 + o) d w.1) ⊛ raw (all 𝓤 (Way w)))))) (parts.laid_at 𝓛 R token x cs j asked.2.0) $ learn ! (λ near. pick ! (λ w. learn ! (λ isin. split ! $
     let W : List Names = w.0 in let r : ℕ = w.1 in let q : ℕ = room_at R r i in let q' : ℕ = j * step R + e in let O : ℕ = k' * 8 + o in fpick ! (λ s. fsplit ! $ let f : ℕ → ℕ = λ l. state (s l).1 in let n : ℕ = pack W f in let fit : Fit f = states_fit R (λ l. (s l).1) in let Into : Names × Rest R.Denot → SProp 𝓤 = parts.Rested 𝓛 R W d r s i in
     move ! (1 ∷ []) $ use1 𝓛 (‵ (lying R d q (cell_in W i) (s i)) ⊛ raw (all 𝓤 Into)) (parts.rests_at 𝓛 R W d r s i isin.near) $ split ! $ move ! (2 ∷ []) $ rewrite ! 1 (λ (u : Names × ℕ). ‵ (lying R d u.1 u.0 (s i))) (λ l. (isin.names l, isin.lies l)) refl $
+    move ! (1 ∷ []) $ use1 𝓛 (given (AgreesAt γ.tied (stage (s i).1)) (‵ (lying R d q' γ (s i)))) (still_at 𝓛 R γ (s i) d q') $ learn ! (λ staged. move ! (1 ∷ 0 ∷ []) $
     -- [the word; the cell; the way back into the word; the way back; ..]
     use1 𝓛 (given (lib.Dec.T (has_ty (ty_int w64) (vint w64 n)) × WT (vint w64 n)) (‵ (word b O n))) (𝓛.laws.at_wt full_share (ty_int w64) b O (vint w64 n)) $ learn ! (λ g. let small : k' * 8 < 2 ^ 64 = (let l : k' * 8 < 2 ^ 63 = near.0 in omega arith) in let wide : j * step R < 2 ^ 64 = (let l : j * step R < 2 ^ 63 = near.1 in omega arith) in
     let n' : ℕ = bit_and n m' in let fits' : n' < 2 ^ 64 = and_lt 64 n m' g.1.fits fits_m in
@@ -111,9 +115,9 @@ settle_spec 𝓤 𝓛 𝓜 𝓡 wired T Al L _ ga da dd _ _ =
     move ! (2 ∷ []) $ use1 𝓛 (raw (Way w γ')) (all_e 𝓤 (Way w) γ') $ move ! (1 ∷ 0 ∷ []) $
     use2 𝓛 (‵ (laid R token x (set cs j γ'))) (apply∗ 𝓤 (sem 𝓛 (still R (set W i γ') b O d r)) (sem 𝓛 (laid R token x (set cs j γ')))) $
     let h' : Lo.Denot = record { marker = h.marker; heap = h.heap; rows = x; cells = set cs j γ' } in
-    let Kept : Type 0 = (h.heap ≡ h.heap) × (x ≡ h.rows) × (γ.value_name ≡ γ.value_name) × Settles cs j h'.cells mb.value mb.epoch × (mb.epoch ≡ ε) × (mb.value ≡ None → IsFixedAt cs j h'.cells Broken) in
+    let Kept : Type 0 = (h.heap ≡ h.heap) × (x ≡ h.rows) × (γ.value_name ≡ γ.value_name) × Settles cs j h'.cells mb.value mb.epoch × (mb.epoch ≡ ε) × (mb.value ≡ None → IsFixedAt cs j h'.cells Broken) × HasValueByStage γ mb.value in
     move ! (2 ∷ 0 ∷ []) $ fjoin ! $ move ! (2 ∷ 0 ∷ 3 ∷ 4 ∷ 5 ∷ []) $ closes ! tt Lo h' ts b' o' $ feq_i ! (List Val) (vptr b' o' ∷ []) (vptr b' o' ∷ []) refl $ fjoin3 ! $ nothing ! $ nothing ! $ fjoin ! $ nothing ! $ fjoin ! $ nothing ! $ fjoin ! $ nothing ! $ fjoin ! $ nothing ! $ fjoin ! $ nothing ! $ fjoin ! $ nothing ! $ fjoin ! $ move ! (1 ∷ 0 ∷ []) $ fjoin ! $ move ! (1 ∷ 3 ∷ []) $ join ! $
-    use0 𝓛 (raw (fact 𝓤 Kept)) (fact_i 𝓤 Kept (emp 𝓤) (refl, (λ l. record { at = sym asked.0.0 l; rooms = sym asked.1.0 l; words = h.rows.words; more = h.rows.more; left = h.rows.left }), refl, (γ', new.0, refl, refl), new.1, (λ _. rest.fixed_set cs j γ' Broken asked.2.0 new.2))) $
+    use0 𝓛 (raw (fact 𝓤 Kept)) (fact_i 𝓤 Kept (emp 𝓤) (refl, (λ l. record { at = sym asked.0.0 l; rooms = sym asked.1.0 l; words = h.rows.words; more = h.rows.more; left = h.rows.left }), refl, (γ', new.0, refl, refl), new.1, (λ _. rest.fixed_set cs j γ' Broken asked.2.0 new.2), no_value_by_stage γ (s i).1 staged other)) $
     returns ! (look_at ! 0 refl) $ free_all ! refl $ keep ! (1 ∷ 2 ∷ 3 ∷ 0 ∷ []) $ by ! (leaves 𝓛 En hs c y token_val made (h', (tt, (tt, (tt, (tt, (tt, (tt, (tt, tt)))))))) (tt, (tt, (tt, (tt, (tt, (tt, (tt, (tt, tt)))))))))))))
     (λ miss. let three : state (s i).1 ≡ 3 = moved_apart i (state (s i).1) 3 (sym own ∙ rest.is_same (n - n') fd' miss) in skips ! $ exec ! 𝓣.C 𝓣.Λ Ev (tail fn.body) (at_ret Ev Post) $
     move ! (1 ∷ []) $ fsplit ! $ move ! (1 ∷ []) $ use1 𝓛 (‵ (resting R γ (s i)) ⊛ ‵ (fex R.Denot (written R γ.value_name))) (rest.full_shown 𝓛 R γ (s i) three) $ split ! $ move ! (2 ∷ 0 ∷ []) $ fjoin ! $
@@ -125,7 +129,7 @@ settle_spec 𝓤 𝓛 𝓜 𝓡 wired T Al L _ ga da dd _ _ =
     use2 𝓛 (‵ (laid R token x (set cs j γ))) (apply∗ 𝓤 (sem 𝓛 (still R (set W i γ) b O d r)) (sem 𝓛 (laid R token x (set cs j γ)))) $
     rewrite ! 0 (λ (u : List Names). ‵ (laid R token x u)) (set-get_or cs j (record { value_name = 0; broken_name = 0; epoch = []; tied = None })) refl $
     let h' : Lo.Denot = record { marker = h.marker; heap = h.heap; rows = x; cells = cs } in
-    let Kept : Type 0 = (h.heap ≡ h.heap) × (x ≡ h.rows) × (γ.value_name ≡ γ.value_name) × Settles cs j h'.cells mb.value mb.epoch × (mb.epoch ≡ ε) × (mb.value ≡ None → IsFixedAt cs j h'.cells Broken) in
+    let Kept : Type 0 = (h.heap ≡ h.heap) × (x ≡ h.rows) × (γ.value_name ≡ γ.value_name) × Settles cs j h'.cells mb.value mb.epoch × (mb.epoch ≡ ε) × (mb.value ≡ None → IsFixedAt cs j h'.cells Broken) × HasValueByStage γ mb.value in
     move ! (2 ∷ 0 ∷ []) $ fjoin ! $ move ! (2 ∷ 0 ∷ 3 ∷ 4 ∷ 5 ∷ []) $ closes ! tt Lo h' ts b' o' $ feq_i ! (List Val) (vptr b' o' ∷ []) (vptr b' o' ∷ []) refl $ fjoin3 ! $ nothing ! $ nothing ! $ fjoin ! $ nothing ! $ fjoin ! $ nothing ! $ fjoin ! $ nothing ! $ fjoin ! $ nothing ! $ fjoin ! $ nothing ! $ fjoin ! $ nothing ! $ fjoin ! $ move ! (1 ∷ 0 ∷ []) $ fjoin ! $ move ! (1 ∷ 3 ∷ []) $ join ! $
-    use0 𝓛 (raw (fact 𝓤 Kept)) (fact_i 𝓤 Kept (emp 𝓤) (refl, (λ l. record { at = sym asked.0.0 l; rooms = sym asked.1.0 l; words = h.rows.words; more = h.rows.more; left = h.rows.left }), refl, refl, refl, (λ none. absurd (let z = none in cc)))) $
-    returns ! (look_at ! 0 refl) $ free_all ! refl $ keep ! (1 ∷ 2 ∷ 3 ∷ 0 ∷ []) $ by ! (leaves 𝓛 En hs c y token_val made (h', (tt, (tt, (tt, (tt, (tt, (tt, (tt, tt)))))))) (tt, (tt, (tt, (tt, (tt, (tt, (tt, (tt, tt))))))))))))))))))))
+    use0 𝓛 (raw (fact 𝓤 Kept)) (fact_i 𝓤 Kept (emp 𝓤) (refl, (λ l. record { at = sym asked.0.0 l; rooms = sym asked.1.0 l; words = h.rows.words; more = h.rows.more; left = h.rows.left }), refl, refl, refl, (λ none. absurd (let z = none in cc)), value_by_state γ (state (s i).1) v three (shown_at γ (s i).1 staged))) $
+    returns ! (look_at ! 0 refl) $ free_all ! refl $ keep ! (1 ∷ 2 ∷ 3 ∷ 0 ∷ []) $ by ! (leaves 𝓛 En hs c y token_val made (h', (tt, (tt, (tt, (tt, (tt, (tt, (tt, tt)))))))) (tt, (tt, (tt, (tt, (tt, (tt, (tt, (tt, tt)))))))))))))))))))))

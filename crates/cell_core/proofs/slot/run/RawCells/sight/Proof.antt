@@ -6,7 +6,7 @@ use mir.MapTy.{inst_fn}
 use base.Logic.{SProp, wand, emp, via, apply∗, guard_i}
 use base.Fml.{Lft, Share, Fml, ftrue, fsep, flft, feq}
 use types.Logic.{sem}
-use types.Kit.{mean, ‵, raw, ◌⊛◌, some, given, later, at_ret, ◌$◌, ◌∵◌, !, qed, by, move, keep, drop, use0, use1, use2, use3, split, join, fsplit, fjoin, fjoin3, fpick, fpack, pick, learn, await, rewrite, feq_i, flt_i}
+use types.Kit.{mean, ‵, raw, ◌⊛◌, some, given, later, at_ret, ◌$◌, ◌∵◌, !, qed, by, move, keep, drop, use0, use1, use2, use3, split, join, fsplit, fsplit3, fjoin, fjoin3, fpick, fpack, pick, learn, await, rewrite, feq_i, flt_i}
 use types.Run.{stop, fld, lit, of_opd, no_more, and_then, first, blocks, exec, Calls-last, returns, enter}
 use types.ByLocal.{alloc_all, pass_all, free_all, look_at, get, get_in, sets, lands_last, is, env}
 use types.Part.{agg, sub, whole}
@@ -25,6 +25,8 @@ use Rattle.atomic_table.proofs.Walks.{proved, leaves}
 use Rattle.atomic_table.proofs.Calls.{fm, seq_cst, found, loads, finds}
 use Rattle.core.proofs.atomic.Steps.{tail}
 use Rattle.cell_core.specs.Slot.{Names, Turn}
+use Rattle.cell_core.specs.Slot.{fact as is_fact}
+use Rattle.cell_core.specs.Fixed.{ShowStages}
 use Rattle.cell_core.specs.Run.{cells_owned, sights_owned}
 use Rattle.cell_core.specs.contracts.slot.run.RawCells as RawCells
 use Rattle.cell_core.specs.contracts.slot.run.RawSights as RawSights
@@ -56,7 +58,7 @@ sight_spec 𝓤 𝓛 𝓜 𝓡 wired T L =
     -- [before; the invariant; the token; the others]
     move ! (0 ∷ 2 ∷ []) $ use2 𝓛 (later (some (λ (w : Share). ‵ (flft α w) ⊛ raw (wand 𝓤 (A.lft α w) (H.⇛ (A.lft β q)))))) (Lends-one 𝓛 𝓜 𝓡 β α q) $ await ! tt $ pick ! (λ w. split ! $
     -- [the turn's token; the way back; the invariant; the others]
-    let after : ℕ → Fml = λ k. fsep (flft α w) (sights_owned R gs i k) in
+    let after : ℕ → Fml = λ k. fsep (flft α w) (fsep (sights_owned R gs i k) (is_fact (ShowStages gs i k))) in
     sets ! (is ! (of_opd ! (get_in ! (fld ! refl (stop !)) (sub ! 0 refl (whole !)))) (ap ptr_val is_at)) refl (tt, tt) $
     first ! $ blocks ! $ nothing ! $ move ! (3 ∷ 1 ∷ 0 ∷ []) $
     use3 𝓛 (raw (𝓣.C _ (vptr b o ∷ seq_cst ∷ []) (λ u. mean 𝓛 (found after u))))
@@ -66,10 +68,11 @@ sight_spec 𝓤 𝓛 𝓜 𝓡 wired T L =
     lands_last ! refl (tt, record { fits = fits }) $ exec ! 𝓣.C 𝓣.Λ Ev (tail (tail fn.body)) (at_ret Ev Post) $ sets ! (of_opd ! (get ! refl)) refl (tt, record { fits = fits }) $
     sets ! (agg ! (no_more !)) refl (tt, tt) $ sets ! (agg ! (and_then ! (get ! refl) (no_more !))) refl (tt, (tt, tt)) $
     sets ! (of_opd ! (get ! refl)) refl (tt, (tt, tt)) $ sets ! (agg ! (and_then ! (get ! refl) (and_then ! (get ! refl) (no_more !)))) refl (tt, (record { fits = fits }, ((tt, tt), tt))) $
-    fsplit ! $ move ! (0 ∷ 2 ∷ []) $ use2 𝓛 (later (‵ (flft β q))) (apply∗ 𝓤 (A.lft α w) (H.⇛ (A.lft β q))) $ await ! tt $ move ! (0 ∷ 2 ∷ []) $ join ! $ move ! (1 ∷ []) $
-    let sees : Hr.Denot = record { marker = record {}; of = gs; index = i; word = n } in let val : Val = vstruct (vcons (vint w64 n) (vcons token_val vnil)) in let Told : Type 0 = (gs ≡ gs) × (i ≡ i) × (n ≡ n) in
+    -- [the turn's token; what is shown; the stages; the way back; the others]
+    fsplit3 ! $ move ! (2 ∷ []) $ fpick ! (λ stages. drop ! $ move ! (0 ∷ 2 ∷ []) $ use2 𝓛 (later (‵ (flft β q))) (apply∗ 𝓤 (A.lft α w) (H.⇛ (A.lft β q))) $ await ! tt $ move ! (0 ∷ 2 ∷ []) $ join ! $ move ! (1 ∷ []) $
+    let sees : Hr.Denot = record { marker = record {}; of = gs; index = i; word = n } in let val : Val = vstruct (vcons (vint w64 n) (vcons token_val vnil)) in let Told : Type 0 = (gs ≡ gs) × (i ≡ i) × (n ≡ n) × ShowStages gs i n in
     use1 𝓛 (‵ (Hr.own_val sees (token_val ∷ []))) (sights_made 𝓛 R gs i n) $ nothing ! $ flt_i ! n (2 ^ 64) fits $ feq_i ! (List Val) (vint w64 n ∷ []) (vint w64 n ∷ []) refl $ fjoin ! $
     move ! (0 ∷ 2 ∷ 1 ∷ []) $ fjoin3 ! $ feq_i ! (List Val) (val ∷ []) (val ∷ []) refl $ fjoin ! $
     fpack ! (Valss (u64 ∷ Hr ∷ [])) (λ uss. fsep (feq (List Val) (val ∷ []) (vstruct (of_list (uss.0 ++ (uss.1.0 ++ []))) ∷ [])) (owns (u64 ∷ Hr ∷ []) (n, (sees, tt)) uss)) (vint w64 n ∷ [], (token_val ∷ [], tt)) $
-    use0 𝓛 (raw (fact 𝓤 Told)) (fact_i 𝓤 Told (emp 𝓤) (refl, refl, refl)) $ nothing ! $ nothing ! $ fjoin ! $
-    returns ! (look_at ! 0 refl) $ free_all ! refl $ keep ! (3 ∷ 0 ∷ 2 ∷ 1 ∷ []) $ by ! (leaves 𝓛 En hs c y val (n, sees) (tt, tt) (tt, tt))))))))))
+    use0 𝓛 (raw (fact 𝓤 Told)) (fact_i 𝓤 Told (emp 𝓤) (refl, refl, refl, stages)) $ nothing ! $ nothing ! $ fjoin ! $
+    returns ! (look_at ! 0 refl) $ free_all ! refl $ keep ! (3 ∷ 0 ∷ 2 ∷ 1 ∷ []) $ by ! (leaves 𝓛 En hs c y val (n, sees) (tt, tt) (tt, tt)))))))))))

@@ -26,14 +26,14 @@ use Rattle.atomic_table.proofs.Walks.{proved, leaves}
 use Rattle.atomic_table.proofs.Calls.{fm, seq_cst, found, adds, finds}
 use Rattle.core.proofs.atomic.Steps.{tail}
 use Rattle.cell_core.specs.Fields.{field}
-use Rattle.cell_core.specs.Slot.{Names, setting, break_added, Turn, pen_owned, was_broken, over, empty, Room}
+use Rattle.cell_core.specs.Slot.{Names, setting, break_added, writer_state, writer_stage, Turn, pen_owned, was_broken, over, empty, Room}
 use Rattle.cell_core.specs.contracts.slot.steps.RawBroken as RawBroken
 use Rattle.cell_core.specs.contracts.slot.steps.RawPen as RawPen
 use Rattle.cell_core.proofs.CellMade.{pointers_val, pointers_good, token_val, pen_told, pen_placed, pen_gains, Has, broken_made}
 use Rattle.tie_core.specs.contracts.offer.Offer as Offer
-use Rattle.tie_core.specs.Tie.{Tie, Step, breaks, Stage, Made, HasMade, floor_of, offer_owns, update}
+use Rattle.tie_core.specs.Tie.{Tie, Step, breaks, Stage, Broken, Made, floor_of, offer_owns, update}
 use Rattle.tie_core.proofs.OfferMade.{OfferWords, offer_told, offer_made}
-use Rattle.cell_core.proofs.CellSteps.{break_small}
+use Rattle.cell_core.proofs.CellSteps.{break_small, found_at, made_broken}
 use Rattle.cell_core.proofs.CellSteps as steps
 use Rattle.cell_core.proofs.WordSteps.{Turns, stepped_both_at, turns_add}
 use Rattle.cell_core.specs.contracts.slot.steps.RawPen.break_for.{ended, clauses}
@@ -66,13 +66,13 @@ break_for_spec 𝓤 𝓛 𝓜 𝓡 wired T X K _ _ _ bk dict _ =
     -- [the rights; the turn's token; the way back; the invariant; the others; the offer; its token]
     move ! (5 ∷ []) $ fsplit3 ! $ move ! (0 ∷ 8 ∷ []) $ use2 𝓛 (later (some (λ (v : Share). ‵ (flft θ v) ⊛ raw (wand 𝓤 (A.lft θ v) (H.⇛ (A.lft μ q')))))) (Lends-one 𝓛 𝓜 𝓡 μ θ q') $ await ! tt $ pick ! (λ v'. split ! $
     -- [the table's token; its way back; its invariant; the update; the rights; the turn's token; the way back; the invariant; the others]
-    let Update : Fml = update θ J gain tie breaks in let Gone : ℕ → Fml = λ _. was_broken γ.broken_name in let Shown : ℕ → Fml = λ k. fsep (Gone k) (steps.ran 𝓛 R γ α (t.1 i) d r θ J gain tie breaks k) in let after : ℕ → Fml = λ k. fsep (flft α w) (fsep (flft θ v') (Shown (field k i))) in
+    let Update : Fml = update θ J gain tie breaks in let Gone : ℕ → Fml = found_at (was_broken γ.broken_name) (writer_state h.first) in let Shown : ℕ → Fml = λ k. fsep (Gone k) (steps.ran 𝓛 R γ α (t.1 i) d r θ J gain tie breaks k) in let after : ℕ → Fml = λ k. fsep (flft α w) (fsep (flft θ v') (Shown (field k i))) in
     let Free : Fml = fsep (empty R γ α (t.1 i) d r) (fbor α (Room R γ α (t.1 i) d r)) in let W : SProp 𝓤 = sep 𝓤 (sem 𝓛 (setting R γ h.first)) (sep 𝓤 (sem 𝓛 (over R γ)) (sem 𝓛 Free)) in
     sets ! (is ! (of_opd ! (get_in ! (fld ! refl (stop !)) (sub ! 0 refl (whole !)))) (ap ptr_val is_at)) refl (tt, tt) $
     first ! $ blocks ! $ move ! (3 ∷ 4 ∷ []) $ join ! $ move ! (1 ∷ 0 ∷ []) $ join ! $ move ! (3 ∷ 0 ∷ []) $ join ! $ move ! (4 ∷ 2 ∷ 0 ∷ []) $
     use3 𝓛 (raw (𝓣.C _ (vptr b o ∷ vint w64 n ∷ seq_cst ∷ []) (λ u. mean 𝓛 (found after u))))
     (via 𝓤 _ (stepped_both_at 𝓛 R γ b o d r i s at w (λ k. (k + n) % 2 ^ 64) (λ k. k + ν) (λ within short. subst (λ (l : ℕ). Turns R γs i (λ k. (k + l) % 2 ^ 64) (λ k. k + ν)) (sym asked.1) (turns_add R γs i within short ν (break_small h.first))) tie.floor θ v' J (subst (λ (τ : Option Tie). tie.floor ≤ floor_of τ) (sym asked.2) (le_refl tie.floor)) Shown (sep 𝓤 (sem 𝓛 Update) W)
-    (steps.asks_by 𝓛 R γ α (t.1 i) d r θ J gain tie breaks (λ k. k + ν) Gone W asked.2 (steps.breaks_by 𝓛 R γ α (t.1 i) d r h.first)))
+    (steps.asks_by 𝓛 R γ α (t.1 i) d r θ J gain tie breaks (λ k. k + ν) Gone W asked.2 (steps.breaks_at_its 𝓛 R γ α (t.1 i) d r h.first)))
     (adds 𝓛 𝓜 𝓡 (code.calls-core::raw_atomic::fetch_add 𝓡.env wired) (block_ptr b o) n are.1.0.1 after)) $
     sets ! (agg ! (and_then ! (lit ! tt) (no_more !))) refl (tt, (record { fits = lit< tt }, tt)) $
     Calls-last ! (fm 𝓛 𝓜 𝓡) (found after) (and_then ! (get ! refl) (and_then ! (get ! refl) (and_then ! (get ! refl) (no_more !)))) (λ u. finds ! after (λ k fits.
@@ -81,14 +81,14 @@ break_for_spec 𝓤 𝓛 𝓜 𝓡 wired T X K _ _ _ bk dict _ =
     fsplit ! $ move ! (0 ∷ 3 ∷ []) $ use2 𝓛 (later (‵ (flft β q))) (apply∗ 𝓤 (A.lft α w) (H.⇛ (A.lft β q))) $ await ! tt $ move ! (1 ∷ []) $ fsplit ! $
     move ! (0 ∷ 3 ∷ []) $ use2 𝓛 (later (‵ (flft μ q'))) (apply∗ 𝓤 (A.lft θ v') (H.⇛ (A.lft μ q'))) $ await ! tt $
     -- [the offer's token; what is shown; the token; the others]
-    move ! (0 ∷ 3 ∷ []) $ join ! $ move ! (2 ∷ 0 ∷ []) $ join ! $ move ! (1 ∷ []) $ fsplit ! $
+    move ! (0 ∷ 3 ∷ []) $ join ! $ move ! (2 ∷ 0 ∷ []) $ join ! $ move ! (1 ∷ []) $ fsplit ! $ fsplit ! $ move ! (1 ∷ []) $ fpick ! (λ its. drop ! $
     -- [broken; what is told; the tokens]
     let made : S.Denot = record { marker = record {}; of = γ.broken_name } in use1 𝓛 (‵ (S.own_val made (token_val ∷ []))) (broken_made 𝓛 γ.broken_name) $
     move ! (1 ∷ []) $ fpick ! (λ got. fsplit ! $ move ! (1 ∷ []) $ fpick ! (λ has. drop ! $ let up' : Or.Denot = record { marker = record {}; tie = tie; about = up.about; step = up.step; made = Some got } in
     use0 𝓛 (‵ ((OfferWords ℓ' Xr Kr bk).own_val (record {}, tt) (token_val ∷ []))) (offer_made ℓ' Xr Kr bk 𝓛) $ fjoin ! $
-    let val : Val = vstruct (vcons token_val (vcons token_val vnil)) in let Told : Type 0 = (γ.broken_name ≡ γ.broken_name) × (tie ≡ tie) × (up.about ≡ up.about) × (up.step ≡ up.step) × ((l : ℕ) × HasMade breaks l (Some got)) in
+    let val : Val = vstruct (vcons token_val (vcons token_val vnil)) in let Told : Type 0 = (γ.broken_name ≡ γ.broken_name) × (tie ≡ tie) × (up.about ≡ up.about) × (up.step ≡ up.step) × (up'.made ≡ Some (writer_stage h.first, Broken)) in
     sets ! (agg ! (no_more !)) refl (tt, tt) $ sets ! (agg ! (and_then ! (get ! refl) (no_more !))) refl (tt, (tt, tt)) $ sets ! (of_opd ! (get ! refl)) refl (tt, (tt, tt)) $ sets ! (of_opd ! (get ! refl)) refl (tt, (tt, tt)) $ sets ! (agg ! (and_then ! (get ! refl) (and_then ! (get ! refl) (no_more !)))) refl (tt, ((tt, tt), ((tt, tt), tt))) $
     nothing ! $ move ! (1 ∷ 0 ∷ []) $ fjoin ! $ move ! (1 ∷ 0 ∷ []) $ fjoin ! $ feq_i ! (List Val) (val ∷ []) (val ∷ []) refl $ fjoin ! $
     fpack ! (Valss (S ∷ Or ∷ [])) (λ uss. fsep (feq (List Val) (val ∷ []) (vstruct (of_list (uss.0 ++ (uss.1.0 ++ []))) ∷ [])) (owns (S ∷ Or ∷ []) (made, (up', tt)) uss)) (token_val ∷ [], (token_val ∷ [], tt)) $
-    use0 𝓛 (raw (fact 𝓤 Told)) (fact_i 𝓤 Told (emp 𝓤) (refl, refl, refl, refl, (field k i, has))) $ nothing ! $ nothing ! $ fjoin ! $ nothing ! $ fjoin ! $ nothing ! $ fjoin ! $
-    returns ! (look_at ! 0 refl) $ free_all ! refl $ keep ! (3 ∷ 0 ∷ 2 ∷ 1 ∷ []) $ by ! (leaves 𝓛 En hs c y val (made, up') (tt, (tt, (tt, tt))) (tt, (tt, (tt, tt))))))))))))))))
+    use0 𝓛 (raw (fact 𝓤 Told)) (fact_i 𝓤 Told (emp 𝓤) (refl, refl, refl, refl, made_broken h.first (field k i) got its has)) $ nothing ! $ nothing ! $ fjoin ! $ nothing ! $ fjoin ! $ nothing ! $ fjoin ! $
+    returns ! (look_at ! 0 refl) $ free_all ! refl $ keep ! (3 ∷ 0 ∷ 2 ∷ 1 ∷ []) $ by ! (leaves 𝓛 En hs c y val (made, up') (tt, (tt, (tt, tt))) (tt, (tt, (tt, tt)))))))))))))))))

@@ -38,14 +38,14 @@ use mir.Raw.{raw as bare}
 use denote.Struct.Members.{Member}
 use types.Tokens.{name_agree, name_set}
 use Rattle.std.specs.Prelude.{None}
-use Rattle.cell_core.specs.Slot.{Names, setting, fill_added, Turn, content, written, place, inside, Room, over, pen_owned}
+use Rattle.cell_core.specs.Slot.{Names, setting, fill_added, writer_state, writer_stage, Turn, content, written, place, inside, Room, over, pen_owned}
 use Rattle.cell_core.specs.contracts.slot.steps.RawPen as RawPen
 use Rattle.cell_core.specs.contracts.slot.steps.Written as Written
 use Rattle.cell_core.proofs.CellMade.{Has, pen_gains, token_val, pointers_val, pointers_good, pen_told, pen_placed, written_made}
 use Rattle.tie_core.specs.contracts.offer.Offer as Offer
-use Rattle.tie_core.specs.Tie.{Tie, Step, fills, Stage, Made, HasMade, floor_of, offer_owns, update}
+use Rattle.tie_core.specs.Tie.{Tie, Step, fills, Stage, Filled, Made, floor_of, offer_owns, update}
 use Rattle.tie_core.proofs.OfferMade.{OfferWords, offer_told, offer_made}
-use Rattle.cell_core.proofs.CellSteps.{fill_small}
+use Rattle.cell_core.proofs.CellSteps.{fill_small, found_at, made_filled}
 use Rattle.cell_core.proofs.CellSteps as steps
 use Rattle.cell_core.specs.contracts.slot.steps.RawPen.fill_for.{ended, clauses}
 use Rattle.cell_core.specs.contracts.slot.steps.RawPen.fill_for.Key.{name as #self}
@@ -97,12 +97,12 @@ fill_for_spec 𝓤 𝓛 𝓜 𝓡 wired T X K L _ _ bk dict _ =
     -- [what is written; the turn's token; T's token; the way back; the invariant; the rest; the offer; its token]
     move ! (6 ∷ []) $ fsplit3 ! $ move ! (0 ∷ 9 ∷ []) $ use2 𝓛 (later (some (λ (v : Share). ‵ (flft θ v) ⊛ raw (wand 𝓤 (A.lft θ v) (H.⇛ (A.lft μ q')))))) (Lends-one 𝓛 𝓜 𝓡 μ θ q') $ await ! tt $ pick ! (λ v'. split ! $
     -- [the table's token; its way back; its invariant; the update; what is written; the turn's token; T's; the way back; the invariant; the rest]
-    let Update : Fml = update θ J gain tie fills in let Filled : ℕ → Fml = λ _. written R γ.value_name x in let Shown : ℕ → Fml = λ k. fsep (Filled k) (steps.ran 𝓛 R γ α δ d e θ J gain tie fills k) in let after : ℕ → Fml = λ k. fsep (flft α s) (fsep (flft θ v') (Shown (field k j))) in
+    let Update : Fml = update θ J gain tie fills in let Wrote : ℕ → Fml = found_at (written R γ.value_name x) (writer_state h.first) in let Shown : ℕ → Fml = λ k. fsep (Wrote k) (steps.ran 𝓛 R γ α δ d e θ J gain tie fills k) in let after : ℕ → Fml = λ k. fsep (flft α s) (fsep (flft θ v') (Shown (field k j))) in
     let W : SProp 𝓤 = sep 𝓤 (sem 𝓛 (setting R γ h.first)) (sep 𝓤 (sem 𝓛 (over R γ)) (sem 𝓛 F)) in
     first ! $ blocks ! $ move ! (3 ∷ 4 ∷ []) $ join ! $ move ! (1 ∷ 0 ∷ []) $ join ! $ move ! (3 ∷ 0 ∷ []) $ join ! $ move ! (5 ∷ 2 ∷ 0 ∷ []) $
     use3 𝓛 (raw (𝓣.C _ (vptr b o ∷ vint w64 n ∷ seq_cst ∷ []) (λ u. mean 𝓛 (found after u))))
     (via 𝓤 _ (stepped_both_at 𝓛 R γ b o d e j y' at s (λ k. (k + n) % 2 ^ 64) (λ k. k + ν) (λ within short. subst (λ (l : ℕ). Turns R y'.0 j (λ k. (k + l) % 2 ^ 64) (λ k. k + ν)) (sym asked.1) (turns_add R y'.0 j within short ν (fill_small h.first))) tie.floor θ v' J (subst (λ (τ : Option Tie). tie.floor ≤ floor_of τ) (sym asked.2) (le_refl tie.floor)) Shown (sep 𝓤 (sem 𝓛 Update) W)
-    (steps.asks_by 𝓛 R γ α δ d e θ J gain tie fills (λ k. k + ν) Filled W asked.2 (steps.publishes_by 𝓛 R γ α δ d e h.first x)))
+    (steps.asks_by 𝓛 R γ α δ d e θ J gain tie fills (λ k. k + ν) Wrote W asked.2 (steps.publishes_at_its 𝓛 R γ α δ d e h.first x)))
     (adds 𝓛 𝓜 𝓡 (code.calls-core::raw_atomic::fetch_add 𝓡.env wired) (block_ptr b o) n are.1.1.0.1 after)) $
     sets ! (agg ! (and_then ! (lit ! tt) (no_more !))) refl (tt, (record { fits = lit< tt }, tt)) $
     Calls-last ! (fm 𝓛 𝓜 𝓡) (found after) (and_then ! (get ! refl) (and_then ! (get ! refl) (and_then ! (get ! refl) (no_more !)))) (λ u. finds ! after (λ k fits.
@@ -112,14 +112,14 @@ fill_for_spec 𝓤 𝓛 𝓜 𝓡 wired T X K L _ _ bk dict _ =
     -- [the table's token; what is shown; the token; its way back; T's token; the rest]
     move ! (0 ∷ 3 ∷ []) $ use2 𝓛 (later (‵ (flft μ q'))) (apply∗ 𝓤 (A.lft θ v') (H.⇛ (A.lft μ q'))) $ await ! tt $
     -- [the offer's token; what is shown; the token; T's token; the rest]
-    move ! (3 ∷ 4 ∷ []) $ join ! $ move ! (1 ∷ 0 ∷ []) $ join ! $ move ! (2 ∷ 0 ∷ []) $ join ! $ move ! (1 ∷ []) $ fsplit ! $
+    move ! (3 ∷ 4 ∷ []) $ join ! $ move ! (1 ∷ 0 ∷ []) $ join ! $ move ! (2 ∷ 0 ∷ []) $ join ! $ move ! (1 ∷ []) $ fsplit ! $ fsplit ! $ move ! (1 ∷ []) $ fpick ! (λ its. drop ! $
     -- [written; what is told; the tokens]
     let made : S.Denot = record { marker = record {}; of = γ.value_name; value = x; found = h.found } in use1 𝓛 (‵ (S.own_val made (token_val ∷ []))) (written_made 𝓛 R γ.value_name x h.found) $
     move ! (1 ∷ []) $ fpick ! (λ got. fsplit ! $ move ! (1 ∷ []) $ fpick ! (λ has. drop ! $ let up' : Or.Denot = record { marker = record {}; tie = tie; about = up.about; step = up.step; made = Some got } in
     use0 𝓛 (‵ ((OfferWords ℓ' Xr Kr bk).own_val (record {}, tt) (token_val ∷ []))) (offer_made ℓ' Xr Kr bk 𝓛) $ fjoin ! $
-    let val : Val = vstruct (vcons token_val (vcons token_val vnil)) in let Told : Type 0 = (γ.value_name ≡ γ.value_name) × (x ≡ x) × (h.found ≡ h.found) × (tie ≡ tie) × (up.about ≡ up.about) × (up.step ≡ up.step) × ((l : ℕ) × HasMade fills l (Some got)) in
+    let val : Val = vstruct (vcons token_val (vcons token_val vnil)) in let Told : Type 0 = (γ.value_name ≡ γ.value_name) × (x ≡ x) × (h.found ≡ h.found) × (tie ≡ tie) × (up.about ≡ up.about) × (up.step ≡ up.step) × (up'.made ≡ Some (writer_stage h.first, Filled)) in
     sets ! (agg ! (no_more !)) refl (tt, tt) $ sets ! (agg ! (and_then ! (get ! refl) (no_more !))) refl (tt, (tt, tt)) $ sets ! (of_opd ! (get ! refl)) refl (tt, (tt, tt)) $ sets ! (of_opd ! (get ! refl)) refl (tt, (tt, tt)) $ sets ! (agg ! (and_then ! (get ! refl) (and_then ! (get ! refl) (no_more !)))) refl (tt, ((tt, tt), ((tt, tt), tt))) $
     nothing ! $ move ! (1 ∷ 0 ∷ []) $ fjoin ! $ move ! (1 ∷ 0 ∷ []) $ fjoin ! $ feq_i ! (List Val) (val ∷ []) (val ∷ []) refl $ fjoin ! $
     fpack ! (Valss (S ∷ Or ∷ [])) (λ uss. fsep (feq (List Val) (val ∷ []) (vstruct (of_list (uss.0 ++ (uss.1.0 ++ []))) ∷ [])) (owns (S ∷ Or ∷ []) (made, (up', tt)) uss)) (token_val ∷ [], (token_val ∷ [], tt)) $
-    use0 𝓛 (raw (fact 𝓤 Told)) (fact_i 𝓤 Told (emp 𝓤) (refl, refl, refl, refl, refl, refl, (field k j, has))) $ nothing ! $ nothing ! $ fjoin ! $ nothing ! $ fjoin ! $ nothing ! $ fjoin ! $ nothing ! $ fjoin ! $
-    returns ! (look_at ! 0 refl) $ free_all ! refl $ keep ! (3 ∷ 0 ∷ 2 ∷ 1 ∷ []) $ by ! (leaves 𝓛 En hs c y val (made, up') (tt, (tt, (tt, (tt, tt)))) (tt, (tt, (tt, (tt, tt)))))))))))))))))))))
+    use0 𝓛 (raw (fact 𝓤 Told)) (fact_i 𝓤 Told (emp 𝓤) (refl, refl, refl, refl, refl, refl, made_filled h.first (field k j) got its has)) $ nothing ! $ nothing ! $ fjoin ! $ nothing ! $ fjoin ! $ nothing ! $ fjoin ! $ nothing ! $ fjoin ! $
+    returns ! (look_at ! 0 refl) $ free_all ! refl $ keep ! (3 ∷ 0 ∷ 2 ∷ 1 ∷ []) $ by ! (leaves 𝓛 En hs c y val (made, up') (tt, (tt, (tt, (tt, tt)))) (tt, (tt, (tt, (tt, tt))))))))))))))))))))))

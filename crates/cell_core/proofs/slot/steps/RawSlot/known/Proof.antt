@@ -34,6 +34,8 @@ use Rattle.cell_core.specs.Slot.{Names, Turn, slot_owned}
 use Rattle.cell_core.specs.contracts.slot.steps.RawSlot as RawSlot
 use Rattle.cell_core.specs.contracts.slot.steps.RawSight as RawSight
 use Rattle.cell_core.proofs.CellMade.{pointers_val, pointers_good, token_val, slot_told, slot_placed, sight_made}
+use Rattle.cell_core.specs.Fixed.{ShowsStage}
+use Rattle.cell_core.proofs.Stages.{also, also_stage}
 use Rattle.cell_core.proofs.CellSteps as steps
 use Rattle.cell_core.proofs.WordSteps.{stepped_at, turns_same}
 use Rattle.cell_core.specs.contracts.slot.steps.RawSlot.known.{ended, clauses}
@@ -62,11 +64,12 @@ known_spec 𝓤 𝓛 𝓜 𝓡 wired T L =
     -- [before; the invariant; what is known; the token; the others]
     move ! (0 ∷ 3 ∷ []) $ use2 𝓛 (later (some (λ (w : Share). ‵ (flft α w) ⊛ raw (wand 𝓤 (A.lft α w) (H.⇛ (A.lft β q)))))) (Lends-one 𝓛 𝓜 𝓡 β α q) $ await ! tt $ pick ! (λ w. split ! $
     -- [the turn's token; the way back; the invariant; what is known; the others]
-    let Shows : ℕ → Fml = steps.Shown 𝓛 R γ α (t.1 i) d r m.value in let after : ℕ → Fml = λ k. fsep (flft α w) (Shows (field k i)) in
+    let Member : ℕ → Fml = steps.Shown 𝓛 R γ α (t.1 i) d r m.value in let Shows : ℕ → Fml = also 𝓛 R γ α (t.1 i) d r Member in let after : ℕ → Fml = λ k. fsep (flft α w) (Shows (field k i)) in
     sets ! (is ! (of_opd ! (get_in ! (fld ! refl (stop !)) (sub ! 0 refl (whole !)))) (ap ptr_val is_at)) refl (tt, tt) $
     first ! $ blocks ! $ move ! (2 ∷ 0 ∷ 3 ∷ []) $
     use3 𝓛 (raw (𝓣.C _ (vptr b o ∷ seq_cst ∷ []) (λ u. mean 𝓛 (found after u))))
-    (via 𝓤 _ (stepped_at 𝓛 R γ b o d r i s at w (λ k. k) (λ k. k) (turns_same R γs i) Shows (sem 𝓛 (known_as R m.value m.name)) (steps.finds_member 𝓛 R γ α (t.1 i) d r m.value m.name m.epoch asked))
+    (via 𝓤 _ (stepped_at 𝓛 R γ b o d r i s at w (λ k. k) (λ k. k) (turns_same R γs i) Shows (sem 𝓛 (known_as R m.value m.name))
+    (also_stage 𝓛 R γ α (t.1 i) d r Member (sem 𝓛 (known_as R m.value m.name)) (steps.finds_member 𝓛 R γ α (t.1 i) d r m.value m.name m.epoch asked)))
     (loads 𝓛 𝓜 𝓡 (code.calls-core::raw_atomic::load 𝓡.env wired) (block_ptr b o) after)) $
     sets ! (agg ! (and_then ! (lit ! tt) (no_more !))) refl (tt, (record { fits = lit< tt }, tt)) $
     Calls-last ! (fm 𝓛 𝓜 𝓡) (found after) (and_then ! (get ! refl) (and_then ! (get ! refl) (no_more !))) (λ u. finds ! after (λ n fits.
@@ -74,11 +77,11 @@ known_spec 𝓤 𝓛 𝓜 𝓡 wired T L =
     sets ! (agg ! (no_more !)) refl (tt, tt) $ sets ! (agg ! (and_then ! (get ! refl) (no_more !))) refl (tt, (tt, tt)) $
     sets ! (of_opd ! (get ! refl)) refl (tt, (tt, tt)) $ sets ! (agg ! (and_then ! (get ! refl) (and_then ! (get ! refl) (no_more !)))) refl (tt, (record { fits = fits }, ((tt, tt), tt))) $
     -- [the load's; the way back; the others]
-    let k : ℕ = field n i in fsplit3 ! $ move ! (2 ∷ []) $ fpick ! (λ so. drop ! $
+    let k : ℕ = field n i in fsplit3 ! $ move ! (2 ∷ []) $ fpick ! (λ stages. drop ! $ move ! (1 ∷ []) $ fsplit ! $ move ! (1 ∷ []) $ fpick ! (λ so. drop ! $ move ! (1 ∷ 0 ∷ []) $
     move ! (0 ∷ 2 ∷ []) $ use2 𝓛 (later (‵ (flft β q))) (apply∗ 𝓤 (A.lft α w) (H.⇛ (A.lft β q))) $ await ! tt $ move ! (0 ∷ 2 ∷ []) $ join ! $ move ! (1 ∷ []) $ fpick ! (λ v.
-    let sees : Hr.Denot = record { marker = record {}; of = γ; found = k; value = v } in let val : Val = vstruct (vcons (vint w64 n) (vcons token_val vnil)) in let Told : Type 0 = (γ ≡ γ) × (k ≡ k) × MayBeStateOf m.value k in
+    let sees : Hr.Denot = record { marker = record {}; of = γ; found = k; value = v } in let val : Val = vstruct (vcons (vint w64 n) (vcons token_val vnil)) in let Told : Type 0 = (γ ≡ γ) × (k ≡ k) × MayBeStateOf m.value k × ShowsStage γ k in
     use1 𝓛 (‵ (Hr.own_val sees (token_val ∷ []))) (sight_made 𝓛 R γ k v) $ nothing ! $ flt_i ! n (2 ^ 64) fits $ feq_i ! (List Val) (vint w64 n ∷ []) (vint w64 n ∷ []) refl $ fjoin ! $
     move ! (0 ∷ 2 ∷ 1 ∷ []) $ fjoin3 ! $ feq_i ! (List Val) (val ∷ []) (val ∷ []) refl $ fjoin ! $
     fpack ! (Valss (u64 ∷ Hr ∷ [])) (λ uss. fsep (feq (List Val) (val ∷ []) (vstruct (of_list (uss.0 ++ (uss.1.0 ++ []))) ∷ [])) (owns (u64 ∷ Hr ∷ []) (n, (sees, tt)) uss)) (vint w64 n ∷ [], (token_val ∷ [], tt)) $
-    use0 𝓛 (raw (fact 𝓤 Told)) (fact_i 𝓤 Told (emp 𝓤) (refl, refl, so)) $ nothing ! $ nothing ! $ fjoin ! $ nothing ! $ fjoin ! $
-    returns ! (look_at ! 0 refl) $ free_all ! refl $ keep ! (3 ∷ 0 ∷ 2 ∷ 1 ∷ []) $ by ! (leaves 𝓛 En hs c y val (n, sees) (tt, (tt, tt)) (tt, (tt, tt))))))))))))))
+    use0 𝓛 (raw (fact 𝓤 Told)) (fact_i 𝓤 Told (emp 𝓤) (refl, refl, so, stages)) $ nothing ! $ nothing ! $ fjoin ! $ nothing ! $ fjoin ! $
+    returns ! (look_at ! 0 refl) $ free_all ! refl $ keep ! (3 ∷ 0 ∷ 2 ∷ 1 ∷ []) $ by ! (leaves 𝓛 En hs c y val (n, sees) (tt, (tt, tt)) (tt, (tt, tt)))))))))))))))

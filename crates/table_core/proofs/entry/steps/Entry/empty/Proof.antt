@@ -34,7 +34,7 @@ use Rattle.std.specs.contracts.alloc.Global as heap
 use Rattle.std.proofs.alloc.Global.TheLaws as heap_laws
 use Rattle.std.specs.declared.option.Option.TheVariants.{None}
 use denote.Triple.Entry.{alive}
-use Rattle.table_core.specs.Entry.{EntryView, Cast, tie_of}
+use Rattle.table_core.specs.Entry.{EntryView, Cast, bond_of}
 use Rattle.table_core.specs.TiedEntry.{tied_kept}
 use Rattle.table_core.specs.contracts.entry.steps.Entry.TheInside as inside
 use Rattle.table_core.proofs.Values.{both_tt}
@@ -63,5 +63,5 @@ empty_spec 𝓤 𝓛 𝓜 𝓡 wired T L g d _ =
     enter ! 𝓣.C 𝓣.Λ fn (v.0 ∷ h.0 ∷ len ∷ []) Post $ alloc_all ! (λ l. pass_all ! refl (v.2, (h.2, ((tt, record { fits = are.1.1.0.1 }), tt))) $ name_new ! tt gnil (λ γ. let e : EntryView = (a, n, γ, None) in fjoin ! $ nothing ! $ move ! (1 ∷ 0 ∷ []) $ fjoin ! $ move ! (1 ∷ 0 ∷ []) $ fjoin ! $
     fpack ! Ptr (λ p. fsep ((inside.the_row R g).own_val (record { word = atomic_ptr_holding p; alloc = a }) (w ∷ [])) (tied_kept (Cast R g.measure g.mould e) g.seat a γ None p)) null_ptr $ nothing ! $ fpack ! (Typed Out.mir (w ∷ [])) (λ _. ftrue) (good, tt) $ fjoin ! $ sets ! (of_opd ! (get ! refl)) refl v.2 $
     sets ! (agg ! (and_then ! (get ! refl) (and_then ! (get ! refl) (no_more !)))) refl good $
-    use0 𝓛 (raw (fact 𝓤 ((n ≡ n) × (tie_of e ≡ None)))) (fact_i 𝓤 ((n ≡ n) × (tie_of e ≡ None)) (emp 𝓤) (refl, refl)) $ nothing ! $ nothing ! $ fjoin ! $ nothing ! $ fjoin ! $ nothing ! $ fjoin ! $
+    use0 𝓛 (raw (fact 𝓤 ((n ≡ n) × (bond_of e ≡ None)))) (fact_i 𝓤 ((n ≡ n) × (bond_of e ≡ None)) (emp 𝓤) (refl, refl)) $ nothing ! $ nothing ! $ fjoin ! $ nothing ! $ fjoin ! $ nothing ! $ fjoin ! $
     returns ! (look_at ! 0 refl) $ free_all ! refl $ keep ! (4 ∷ 0 ∷ 2 ∷ 1 ∷ []) $ by ! (leaves 𝓛 En hs c z w e (_, (tt, (tt, tt))) (tt, (tt, (tt, tt))))))))

@@ -66,7 +66,7 @@ empty_for_spec 𝓤 𝓛 𝓜 𝓡 wired T Mt L _ g d g' d' _ _ =
     rewrite ! 0 (λ (us : List Val). ‵ (P.own_val x us)) v.1 refl $ rewrite ! 1 (λ (us : List Val). ‵ (Z.own_val a us)) h.1 refl $ rewrite ! 0 (λ (p : Ptr). ‵ (P.own_val (atomic_ptr_holding p) (v.0 ∷ []))) empty refl $
     two_in P Z (atomic_ptr_holding null_ptr) a ! v.0 h.0 $
     suffices ! (Run (v.0 ∷ h.0 ∷ len ∷ token_val ∷ q ∷ [])) (subst (λ (us : List Val). ent 𝓤 (Run (v.0 ∷ h.0 ∷ len ∷ token_val ∷ q ∷ [])) (Run us)) (sym (λ i. v.1 i ++ (h.1 i ++ (are.1.1.0.0 i ++ (entry_seat_told z.0.4.1.1.1.0 are.1.1.1.0.0 i ++ (are.1.1.1.1.0.0 i ++ [])))))) (id⊢ 𝓤 (Run (v.0 ∷ h.0 ∷ len ∷ token_val ∷ q ∷ [])))) $
-    enter ! 𝓣.C 𝓣.Λ fn (v.0 ∷ h.0 ∷ len ∷ token_val ∷ q ∷ []) Post $ alloc_all ! (λ l. pass_all ! refl (v.2, (h.2, ((tt, record { fits = are.1.1.0.1 }), ((tt, (tt, tt)), ((tt, tt), tt))))) $ name_new ! tt gnil (λ γ. let e : EntryView = (a, n, γ, Some (t, mould)) in fjoin ! $ move ! (0 ∷ 2 ∷ []) $ fjoin ! $ move ! (1 ∷ 0 ∷ []) $ fjoin ! $
+    enter ! 𝓣.C 𝓣.Λ fn (v.0 ∷ h.0 ∷ len ∷ token_val ∷ q ∷ []) Post $ alloc_all ! (λ l. pass_all ! refl (v.2, (h.2, ((tt, record { fits = are.1.1.0.1 }), ((tt, (tt, tt)), ((tt, tt), tt))))) $ name_new ! tt gnil (λ γ. let e : EntryView = (a, n, γ, Some (τ, mould)) in fjoin ! $ move ! (0 ∷ 2 ∷ []) $ fjoin ! $ move ! (1 ∷ 0 ∷ []) $ fjoin ! $
     fpack ! Ptr (λ p. fsep ((inside.the_row R g).own_val (record { word = atomic_ptr_holding p; alloc = a }) (w ∷ [])) (tied_kept (Cast R g.measure g.mould e) g.seat a γ τ p)) null_ptr $ nothing ! $ fpack ! (Typed Out.mir (w ∷ [])) (λ _. ftrue) (good, tt) $ fjoin ! $ sets ! (of_opd ! (get ! refl)) refl v.2 $
     sets ! (agg ! (and_then ! (get ! refl) (and_then ! (get ! refl) (no_more !)))) refl good $
     let Told : Type 0 = (n ≡ n) × (tie_of e ≡ τ) × (mould_at e ≡ mould) in use0 𝓛 (raw (fact 𝓤 Told)) (fact_i 𝓤 Told (emp 𝓤) (refl, refl, refl)) $ nothing ! $ nothing ! $ fjoin ! $ nothing ! $ fjoin ! $ nothing ! $ fjoin ! $ nothing ! $ fjoin ! $ nothing ! $ fjoin ! $

@@ -32,7 +32,7 @@ use Rattle.core.proofs.cell.Inside.{Good, one}
 use Rattle.std.specs.contracts.alloc.Global as heap
 use Rattle.std.proofs.alloc.Global.TheLaws as heap_laws
 use denote.Triple.Entry.{alive}
-use Rattle.table_core.specs.Entry.{EntryView, Cast, seen_as, tie_of}
+use Rattle.table_core.specs.Entry.{EntryView, Cast, bond_of, seen_as}
 use Rattle.table_core.specs.TiedEntry.{tied_kept}
 use Rattle.table_core.specs.contracts.entry.steps.Entry.TheInside as inside
 use Rattle.table_core.proofs.Values.{both_tt}
@@ -77,5 +77,5 @@ full_spec 𝓤 𝓛 𝓜 𝓡 wired T L g d _ =
     let fine : Good (layout (type_at En.signature.result κs)) r = (both_tt (has_ty (layout E) w) (has_ty (layout S) token) good.0 tt, (good.1, ((tt, tt), tt))) in
     sets ! (of_opd ! (get ! refl)) refl v.2 $ sets ! (agg ! (and_then ! (get ! refl) (and_then ! (get ! refl) (no_more !)))) refl good $ sets ! (of_opd ! (get ! refl)) refl (tt, (tt, tt)) $
     sets ! (agg ! (and_then ! (get ! refl) (and_then ! (get ! refl) (no_more !)))) refl fine $ pair_in E S ! e k' w token $
-    use0 𝓛 (raw (fact 𝓤 (Some y ≡ Some y))) (fact_i 𝓤 (Some y ≡ Some y) (emp 𝓤) refl) $ use0 𝓛 (raw (fact 𝓤 (γ ≡ γ))) (fact_i 𝓤 (γ ≡ γ) (emp 𝓤) refl) $ join ! $ use0 𝓛 (raw (fact 𝓤 (tie_of e ≡ None))) (fact_i 𝓤 (tie_of e ≡ None) (emp 𝓤) refl) $ join ! $ use0 𝓛 (raw (fact 𝓤 (n ≡ n))) (fact_i 𝓤 (n ≡ n) (emp 𝓤) refl) $ join ! $
+    use0 𝓛 (raw (fact 𝓤 (Some y ≡ Some y))) (fact_i 𝓤 (Some y ≡ Some y) (emp 𝓤) refl) $ use0 𝓛 (raw (fact 𝓤 (γ ≡ γ))) (fact_i 𝓤 (γ ≡ γ) (emp 𝓤) refl) $ join ! $ use0 𝓛 (raw (fact 𝓤 (bond_of e ≡ None))) (fact_i 𝓤 (bond_of e ≡ None) (emp 𝓤) refl) $ join ! $ use0 𝓛 (raw (fact 𝓤 (n ≡ n))) (fact_i 𝓤 (n ≡ n) (emp 𝓤) refl) $ join ! $
     nothing ! $ nothing ! $ fjoin ! $ nothing ! $ fjoin ! $ returns ! (look_at ! 0 refl) $ free_all ! refl $ keep ! (4 ∷ 0 ∷ 2 ∷ 1 ∷ []) $ by ! (leaves 𝓛 En hs c z r (e, k') (_, (tt, tt)) (tt, (tt, tt))))))))

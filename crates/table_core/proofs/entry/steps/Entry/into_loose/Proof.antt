@@ -82,12 +82,12 @@ into_loose_spec 𝓤 𝓛 𝓜 𝓡 wired T L g d _ =
     let told : u ≡ ptr_val p = ap only e ∙ ap ptr_val same in either_known R look size g.seat (tie_of e₀) a γ ! tt p known
     (λ is none. lands_as ! (told ∙ ap ptr_val is) refl (Ptr-Good null_ptr) $ sets ! (bin ! (get ! refl) (lit ! tt) tt) refl (tt, tt) $ first ! $ branches ! (get ! refl)
     (λ _. sets_last ! (agg ! (and_then ! (lit ! tt) (no_more !))) refl (tt, (record { fits = lit< tt }, tt)) $ exec ! 𝓣.C 𝓣.Λ Ev (after 6 fn.body) (at_ret Ev Post) $ sets ! (of_opd ! (get ! refl)) refl (tt, (record { fits = lit< tt }, tt)) $
-    use0 𝓛 (‵ (Out.own_val None (live 0 vnil ∷ []))) (none_of 𝓛 Lr) $ use0 𝓛 (raw (fact 𝓤 (known ≡ None))) (fact_i 𝓤 (known ≡ None) (emp 𝓤) none) $ use0 𝓛 (raw (fact 𝓤 (Unit {0}))) (fact_i 𝓤 (Unit {0}) (emp 𝓤) tt) $ join ! $ nothing ! $ nothing ! $ fjoin ! $ nothing ! $ fjoin ! $
+    use0 𝓛 (‵ (Out.own_val None (live 0 vnil ∷ []))) (none_of 𝓛 Lr) $ use0 𝓛 (raw (fact 𝓤 (known ≡ None))) (fact_i 𝓤 (known ≡ None) (emp 𝓤) none) $ use0 𝓛 (raw (fact 𝓤 (Unit {0}))) (fact_i 𝓤 (Unit {0}) (emp 𝓤) tt) $ join ! $ use0 𝓛 (raw (fact 𝓤 (Unit {0}))) (fact_i 𝓤 (Unit {0}) (emp 𝓤) tt) $ join ! $ nothing ! $ nothing ! $ fjoin ! $ nothing ! $ fjoin ! $
     returns ! (look_at ! 0 refl) $ free_all ! refl $ keep ! (3 ∷ 0 ∷ 2 ∷ 1 ∷ []) $ by ! (leaves 𝓛 En hs c z (live 0 vnil) None (tt, (tt, tt)) (tt, (tt, tt)))) (λ wrong. absurd wrong))
     (λ b o x is t agrees. use1 𝓛 (given (look x ≡ size) (‵ (boxed R a (block_ptr b o) x))) (fit_out R look size 𝓛 a (block_ptr b o) x) $ learn ! (λ so_cast. let so_long : g.measure x ≡ long = length_seen g.measure g.mould e₀.3 x long (mould_in e₀.3) so_cast in let made : Val = both (vptr b o) h in let typed = loose_good R Z LZ ghosts b o h gh in let v₁ : Val = live 1 (vcons made vnil) in let d : Lr.Denot = record { at = block_ptr b o; alloc = a; value = x } in
     let good : Good (layout Out) v₁ = (and_tt _ typed.0, (record { fits = lit< tt }, (typed.1, tt))) in
     lands_as ! (told ∙ ap ptr_val is) refl (tt, tt) $ sets ! (bin ! (get ! refl) (lit ! tt) (tests_null (block_ptr b o) t)) refl (tt, tt) $ first ! $ branches ! (get ! refl) (λ wrong. absurd wrong) (λ _.
     sets ! (agg ! (and_then ! (get ! refl) (and_then ! (get ! refl) (no_more !)))) refl typed $ sets_last ! (agg ! (and_then ! (lit ! tt) (and_then ! (get ! refl) (no_more !)))) refl good $
     exec ! 𝓣.C 𝓣.Λ Ev (after 6 fn.body) (at_ret Ev Post) $ sets ! (of_opd ! (get ! refl)) refl good $ move ! (0 ∷ 2 ∷ []) $ loose_in R Z LZ ghosts ! b o h a x $
-    use1 𝓛 (‵ (Out.own_val (Some d) (v₁ ∷ []))) (Some-of 𝓛 Lr d made) $ use0 𝓛 (raw (fact 𝓤 (Agrees known x))) (fact_i 𝓤 (Agrees known x) (emp 𝓤) agrees) $ use0 𝓛 (raw (fact 𝓤 (g.measure x ≡ long))) (fact_i 𝓤 (g.measure x ≡ long) (emp 𝓤) so_long) $ join ! $ nothing ! $ nothing ! $ fjoin ! $ nothing ! $ fjoin ! $
+    use1 𝓛 (‵ (Out.own_val (Some d) (v₁ ∷ []))) (Some-of 𝓛 Lr d made) $ use0 𝓛 (raw (fact 𝓤 (Agrees known x))) (fact_i 𝓤 (Agrees known x) (emp 𝓤) agrees) $ use0 𝓛 (raw (fact 𝓤 (look x ≡ size))) (fact_i 𝓤 (look x ≡ size) (emp 𝓤) so_cast) $ join ! $ use0 𝓛 (raw (fact 𝓤 (g.measure x ≡ long))) (fact_i 𝓤 (g.measure x ≡ long) (emp 𝓤) so_long) $ join ! $ nothing ! $ nothing ! $ fjoin ! $ nothing ! $ fjoin ! $
     returns ! (look_at ! 0 refl) $ free_all ! refl $ keep ! (3 ∷ 0 ∷ 2 ∷ 1 ∷ []) $ by ! (leaves 𝓛 En hs c z v₁ (Some d) (tt, (tt, tt)) (tt, (tt, tt)))))))))))))))))

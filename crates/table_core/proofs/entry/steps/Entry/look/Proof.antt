@@ -44,9 +44,9 @@ use Rattle.std.specs.contracts.alloc.Global as heap
 use Rattle.std.proofs.alloc.Global.TheLaws as heap_laws
 use Rattle.once_cell.specs.Once as once
 use Rattle.tie_core.specs.Visit.{entry_floor}
-use Rattle.table_core.specs.Entry.{EntryView, Mould, Agrees, Cast, tie_of, mould_in, seen_as, noted}
+use Rattle.table_core.specs.Entry.{EntryView, Mould, Agrees, Cast, FitsEntry, tie_of, mould_in, seen_as, noted}
 use Rattle.table_core.specs.TiedEntry.{Tied_held}
-use Rattle.table_core.proofs.Fits.{fit_laws, fit_noted, fit_lent, length_seen}
+use Rattle.table_core.proofs.Fits.{fit_laws, fit_noted, fit_lent, length_seen, mould_seen}
 use Rattle.table_core.proofs.PlainMoves.{reads_plain}
 use Rattle.table_core.proofs.TiedRests.{past_inv}
 use Rattle.table_core.specs.contracts.entry.steps.Entry as entry
@@ -99,7 +99,7 @@ look_spec 𝓤 𝓛 𝓜 𝓡 wired T L g d _ =
     (λ _. sets_last ! (agg ! (and_then ! (lit ! tt) (no_more !))) refl (tt, (record { fits = lit< tt }, tt)) $ exec ! 𝓣.C 𝓣.Λ Ev (after 5 fn.body) (at_ret Ev Post) $ sets ! (of_opd ! (get ! refl)) refl (tt, (record { fits = lit< tt }, tt)) $
     use0 𝓛 (‵ (Out.own_val None (live 0 vnil ∷ []))) (none_of 𝓛 Ref) $ move ! (1 ∷ 2 ∷ 0 ∷ 3 ∷ 5 ∷ []) $
     nothing ! $ move ! (1 ∷ 0 ∷ []) $ fjoin ! $ nothing ! $ fjoin ! $ move ! (1 ∷ 4 ∷ []) $ nothing ! $ move ! (2 ∷ 0 ∷ []) $ join ! $ move ! (1 ∷ 0 ∷ []) $ join ! $ move ! (3 ∷ 0 ∷ []) $ join ! $
-    use0 𝓛 (raw (fact 𝓤 (Unit {0}))) (fact_i 𝓤 (Unit {0}) (emp 𝓤) tt) $ use0 𝓛 (raw (fact 𝓤 ((k ≡ None) × (n.known ≡ None)))) (fact_i 𝓤 ((k ≡ None) × (n.known ≡ None)) (emp 𝓤) (e, refl)) $ join ! $ use0 𝓛 (raw (fact 𝓤 (γ ≡ m.now.of))) (fact_i 𝓤 (γ ≡ m.now.of) (emp 𝓤) (sym same)) $ join ! $ returns ! (look_at ! 0 refl) $ free_all ! refl $ keep ! (1 ∷ 2 ∷ 3 ∷ 0 ∷ []) $ by ! (leaves 𝓛 En hs c z (live 0 vnil) None (tt, (n, tt)) (tt, (tt, tt)))) (λ wrong. absurd wrong)))
+    use0 𝓛 (raw (fact 𝓤 (Unit {0}))) (fact_i 𝓤 (Unit {0}) (emp 𝓤) tt) $ use0 𝓛 (raw (fact 𝓤 (Unit {0}))) (fact_i 𝓤 (Unit {0}) (emp 𝓤) tt) $ join ! $ use0 𝓛 (raw (fact 𝓤 (Unit {0}))) (fact_i 𝓤 (Unit {0}) (emp 𝓤) tt) $ join ! $ use0 𝓛 (raw (fact 𝓤 ((k ≡ None) × (n.known ≡ None)))) (fact_i 𝓤 ((k ≡ None) × (n.known ≡ None)) (emp 𝓤) (e, refl)) $ join ! $ use0 𝓛 (raw (fact 𝓤 (γ ≡ m.now.of))) (fact_i 𝓤 (γ ≡ m.now.of) (emp 𝓤) (sym same)) $ join ! $ returns ! (look_at ! 0 refl) $ free_all ! refl $ keep ! (1 ∷ 2 ∷ 3 ∷ 0 ∷ []) $ by ! (leaves 𝓛 En hs c z (live 0 vnil) None (tt, (n, tt)) (tt, (tt, tt)))) (λ wrong. absurd wrong)))
     (λ pb po. lands_last ! refl (tt, tt) $ exec ! 𝓣.C 𝓣.Λ Ev (after 1 fn.body) (at_ret Ev Post) $ fsplit3 ! $ move ! (1 ∷ 3 ∷ []) $ use2 𝓛 (later (‵ (flft κ (right q)))) (apply∗ 𝓤 (𝓛.A.lft α s) Again) $ await ! tt $ move ! (1 ∷ 0 ∷ []) $ use2 𝓛 (‵ (flft κ q)) (𝓛.lfts.lft_join κ q) $ move ! (1 ∷ []) $
     fsplit ! $ fpick ! (λ t. drop ! $ fpick ! (λ y. fsplit3 ! $ move ! (2 ∷ []) $ fpick ! (λ so. drop ! $ move ! (0 ∷ 3 ∷ []) $
     use2 𝓛 (later (‵ (lent_at F (block_ptr pb po) y.0 κ))) (moves.reaches 𝓛 F LF a κ α (block_ptr pb po) y) $ await ! tt $ use1 𝓛 (given (look y.0 ≡ size) (‵ (shared_of R y.0 pb po κ))) (fit_lent R look size 𝓛 a pb po y.0 κ) $ learn ! (λ so_cast. let so_long : g.measure y.0 ≡ long = length_seen g.measure g.mould e₀.3 y.0 long (mould_in e₀.3) so_cast in hide ! $ move ! (1 ∷ []) $
@@ -112,4 +112,5 @@ look_spec 𝓤 𝓛 𝓜 𝓡 wired T L g d _ =
     exec ! 𝓣.C 𝓣.Λ Ev (after 5 fn.body) (at_ret Ev Post) $ sets ! (of_opd ! (get ! refl)) refl good $ move ! (2 ∷ []) $ feq_i ! (List Val) (vptr pb po ∷ []) (vptr pb po ∷ []) refl $ fjoin ! $
     use1 𝓛 (‵ (Out.own_val (Some x) (v ∷ []))) (Some-of 𝓛 Ref x (vptr pb po)) $ move ! (1 ∷ 2 ∷ []) $
     nothing ! $ move ! (1 ∷ 0 ∷ []) $ fjoin ! $ nothing ! $ fjoin ! $ move ! (1 ∷ 4 ∷ []) $ nothing ! $ move ! (2 ∷ 0 ∷ []) $ join ! $ move ! (1 ∷ 0 ∷ []) $ join ! $ move ! (3 ∷ 0 ∷ []) $ join ! $
-    use0 𝓛 (raw (fact 𝓤 (g.measure y.0 ≡ long))) (fact_i 𝓤 (g.measure y.0 ≡ long) (emp 𝓤) so_long) $ use0 𝓛 (raw (fact 𝓤 ((n.known ≡ Some y.0) × Agrees k y.0))) (fact_i 𝓤 ((n.known ≡ Some y.0) × Agrees k y.0) (emp 𝓤) (refl, so)) $ join ! $ use0 𝓛 (raw (fact 𝓤 (γ ≡ m.now.of))) (fact_i 𝓤 (γ ≡ m.now.of) (emp 𝓤) (sym same)) $ join ! $ returns ! (look_at ! 0 refl) $ free_all ! refl $ keep ! (1 ∷ 2 ∷ 3 ∷ 0 ∷ []) $ by ! (leaves 𝓛 En hs c z v (Some x) (tt, (n, tt)) (tt, (tt, tt)))))))))))))))
+    let E₄ : Type 0 = FitsEntry e₀ (g.mould y.0) in use0 𝓛 (raw (fact 𝓤 (look y.0 ≡ size))) (fact_i 𝓤 (look y.0 ≡ size) (emp 𝓤) so_cast) $ use0 𝓛 (raw (fact 𝓤 E₄)) (fact_i 𝓤 E₄ (emp 𝓤) (λ t is. mould_seen g.measure g.mould e₀.3 y.0 long t is so_cast)) $ join ! $
+    use0 𝓛 (raw (fact 𝓤 (g.measure y.0 ≡ long))) (fact_i 𝓤 (g.measure y.0 ≡ long) (emp 𝓤) so_long) $ join ! $ use0 𝓛 (raw (fact 𝓤 ((n.known ≡ Some y.0) × Agrees k y.0))) (fact_i 𝓤 ((n.known ≡ Some y.0) × Agrees k y.0) (emp 𝓤) (refl, so)) $ join ! $ use0 𝓛 (raw (fact 𝓤 (γ ≡ m.now.of))) (fact_i 𝓤 (γ ≡ m.now.of) (emp 𝓤) (sym same)) $ join ! $ returns ! (look_at ! 0 refl) $ free_all ! refl $ keep ! (1 ∷ 2 ∷ 3 ∷ 0 ∷ []) $ by ! (leaves 𝓛 En hs c z v (Some x) (tt, (n, tt)) (tt, (tt, tt)))))))))))))))

@@ -52,7 +52,7 @@ use Rattle.std.specs.declared.option.Option.{Option}
 use Rattle.tie_core.specs.Visit.{EntryTie, entry_floor}
 use Rattle.table_core.specs.Entry.{EntryView, Mould, Agrees, Cast, tie_of, mould_in, seen_as, noted}
 use Rattle.table_core.specs.TiedEntry.{past, Tied_held}
-use Rattle.table_core.proofs.Fits.{fit_laws, fit_noted, fit_in, fit_out, fit_lent, length_seen, fits_plain}
+use Rattle.table_core.proofs.Fits.{fit_laws, fit_noted, fit_in, fit_out, fit_lent, length_seen}
 use Rattle.table_core.proofs.PlainMoves.{offers_plain}
 use Rattle.table_core.proofs.TiedRests.{past_inv}
 use Rattle.table_core.specs.contracts.entry.steps.Entry as entry
@@ -82,8 +82,8 @@ offer_spec 𝓤 𝓛 𝓜 𝓡 wired T L g d _ =
     let κ' : Lft = κs.1.0 in let q' : Share = qs.1.0 in let m = z.0.3.1.1.0 in let nb₀ : ℕ = m.ref_ptr.0 in let no₀ : ℕ = m.ref_ptr.1 in let ν₀ : ℕ = m.ghost_name in let k = m.now.known in
     let Closes = sights.Closes 𝓛 R κ' q' nb₀ no₀ ν₀ in let Ref : RattleType = ShrRef (named 0) κ R in let Again : SProp 𝓤 = H.⇛ (𝓛.A.lft κ (right q)) in
     let d = z.0.3.1.0 in let x = d.value in let Back : RattleType = option.the_row Lr in
-    qed 𝓛 (((‵ (flft κ q) ⊛ ‵ (flft κ' q') ⊛ ‵ (flft μ r) ⊛ ‵ ftrue) ⊛ ‵ (owns (types_at En.signature.params κs) z.0.3 z.0.4)) ∷ raw (fact 𝓤 (μ ⊑ T.lives)) ∷ (raw (fact 𝓤 (m.now.of ≡ γ)) ⊛ raw (fact 𝓤 (g.measure x ≡ long)) ⊛ raw (fact 𝓤 (tie_of e₀ ≡ None))) ∷ []) ∵
-    move ! (1 ∷ 2 ∷ []) $ heard ! (μ ⊑ T.lives) (λ within. split3 ! $ heard ! (m.now.of ≡ γ) (λ same. heard ! (g.measure x ≡ long) (λ fits_long. heard ! (tie_of e₀ ≡ None) (λ plain. let fits_in : look x ≡ size = fits_plain g.measure g.mould e₀.3 x long plain fits_long in split ! $ split3 ! $ move ! (2 ∷ []) $ split ! $ move ! (4 ∷ []) $ fsplit3 ! $ move ! (2 ∷ []) $ fsplit ! $ fsplit ! $ keep ! (4 ∷ 1 ∷ 3 ∷ 7 ∷ 8 ∷ 5 ∷ []) $
+    qed 𝓛 (((‵ (flft κ q) ⊛ ‵ (flft κ' q') ⊛ ‵ (flft μ r) ⊛ ‵ ftrue) ⊛ ‵ (owns (types_at En.signature.params κs) z.0.3 z.0.4)) ∷ raw (fact 𝓤 (μ ⊑ T.lives)) ∷ (raw (fact 𝓤 (m.now.of ≡ γ)) ⊛ raw (fact 𝓤 (look x ≡ size)) ⊛ raw (fact 𝓤 (tie_of e₀ ≡ None))) ∷ []) ∵
+    move ! (1 ∷ 2 ∷ []) $ heard ! (μ ⊑ T.lives) (λ within. split3 ! $ heard ! (m.now.of ≡ γ) (λ same. heard ! (look x ≡ size) (λ fits_in. heard ! (tie_of e₀ ≡ None) (λ plain. split ! $ split3 ! $ move ! (2 ∷ []) $ split ! $ move ! (4 ∷ []) $ fsplit3 ! $ move ! (2 ∷ []) $ fsplit ! $ fsplit ! $ keep ! (4 ∷ 1 ∷ 3 ∷ 7 ∷ 8 ∷ 5 ∷ []) $
     loose_out R Z LZ ghosts ! d z.0.4.1.0 (λ nb no' h e ws fits. let new : Ptr = block_ptr nb no' in let w : Val = both (vptr nb no') h in let typed = loose_good R Z LZ ghosts nb no' h fits in
     use1 𝓛 (given (Testable new) (‵ (boxed R a new x))) (moves.tested 𝓛 R LR a new x) $ learn ! (λ t. use1 𝓛 (‵ (boxed F a new x)) (fit_in R look size 𝓛 a new x fits_in) $
     suffices ! (Run (vptr b o ∷ w ∷ vptr nb₀ no₀ ∷ [])) (subst (λ (us : List Val). ent 𝓤 (Run (vptr b o ∷ w ∷ vptr nb₀ no₀ ∷ [])) (Run us)) (sym (λ i. are.0.0 i ++ (ws i ++ (are.1.1.0.0 i ++ [])))) (id⊢ 𝓤 (Run (vptr b o ∷ w ∷ vptr nb₀ no₀ ∷ [])))) $
@@ -115,7 +115,7 @@ offer_spec 𝓤 𝓛 𝓜 𝓡 wired T L g d _ =
     exec ! 𝓣.C 𝓣.Λ Ev (after 4 fn.body) (at_ret Ev Post) $ sets ! (of_opd ! (get ! refl)) refl good $ move ! (2 ∷ []) $ feq_i ! (List Val) (vptr nb no' ∷ []) (vptr nb no' ∷ []) refl $ fjoin ! $
     use0 𝓛 (‵ (Back.own_val None (live 0 vnil ∷ []))) (none_of 𝓛 Lr) $ move ! (1 ∷ []) $ pair_in Ref Back ! ref None (vptr nb no') (live 0 vnil) $ move ! (1 ∷ 2 ∷ []) $
     nothing ! $ move ! (1 ∷ 0 ∷ []) $ fjoin ! $ nothing ! $ fjoin ! $ nothing ! $ fjoin ! $ move ! (1 ∷ 4 ∷ []) $ nothing ! $ move ! (2 ∷ 0 ∷ []) $ join ! $ move ! (1 ∷ 0 ∷ []) $ join ! $ move ! (3 ∷ 0 ∷ []) $ join ! $
-    use0 𝓛 (raw (fact 𝓤 (g.measure x ≡ long))) (fact_i 𝓤 (g.measure x ≡ long) (emp 𝓤) so_long) $ use0 𝓛 (raw (fact 𝓤 ((x ≡ x) × (k ≡ None)))) (fact_i 𝓤 ((x ≡ x) × (k ≡ None)) (emp 𝓤) (refl, so)) $ join ! $ use0 𝓛 (raw (fact 𝓤 ((n.known ≡ Some x) × Agrees k x))) (fact_i 𝓤 ((n.known ≡ Some x) × Agrees k x) (emp 𝓤) (refl, subst (λ (j : (option.the_row R).Denot). Agrees j x) (sym so) tt)) $ join ! $ use0 𝓛 (raw (fact 𝓤 (γ ≡ m.now.of))) (fact_i 𝓤 (γ ≡ m.now.of) (emp 𝓤) (sym same)) $ join ! $ returns ! (look_at ! 0 refl) $ free_all ! refl $ keep ! (1 ∷ 2 ∷ 3 ∷ 0 ∷ []) $ by ! (leaves 𝓛 En hs c z v (ref, None) (tt, (tt, (n, tt))) (tt, (tt, (tt, tt)))))))
+    use0 𝓛 (raw (fact 𝓤 (look x ≡ size))) (fact_i 𝓤 (look x ≡ size) (emp 𝓤) so_cast) $ use0 𝓛 (raw (fact 𝓤 (g.measure x ≡ long))) (fact_i 𝓤 (g.measure x ≡ long) (emp 𝓤) so_long) $ join ! $ use0 𝓛 (raw (fact 𝓤 ((x ≡ x) × (k ≡ None)))) (fact_i 𝓤 ((x ≡ x) × (k ≡ None)) (emp 𝓤) (refl, so)) $ join ! $ use0 𝓛 (raw (fact 𝓤 ((n.known ≡ Some x) × Agrees k x))) (fact_i 𝓤 ((n.known ≡ Some x) × Agrees k x) (emp 𝓤) (refl, subst (λ (j : (option.the_row R).Denot). Agrees j x) (sym so) tt)) $ join ! $ use0 𝓛 (raw (fact 𝓤 (γ ≡ m.now.of))) (fact_i 𝓤 (γ ≡ m.now.of) (emp 𝓤) (sym same)) $ join ! $ returns ! (look_at ! 0 refl) $ free_all ! refl $ keep ! (1 ∷ 2 ∷ 3 ∷ 0 ∷ []) $ by ! (leaves 𝓛 En hs c z v (ref, None) (tt, (tt, (n, tt))) (tt, (tt, (tt, tt)))))))
     (λ p. lands_last ! refl (calls.answer_good (Err p)) $ exec ! 𝓣.C 𝓣.Λ Ev (after 2 fn.body) (at_ret Ev Post) $ sets ! (of_opd ! (get ! refl)) refl (calls.answer_good (Err p)) $ fsplit3 ! $ move ! (1 ∷ 3 ∷ []) $ use2 𝓛 (later (‵ (flft κ (right q)))) (apply∗ 𝓤 (𝓛.A.lft α s) Again) $ await ! tt $ move ! (1 ∷ 0 ∷ []) $ use2 𝓛 (‵ (flft κ q)) (𝓛.lfts.lft_join κ q) $ move ! (1 ∷ []) $
     fsplit ! $ use1 𝓛 (later (‵ (boxed F a new x))) (moves.take_back 𝓛 F LF a α new x ν) $ await ! tt $ use1 𝓛 (given (look x ≡ size) (‵ (boxed R a new x))) (fit_out R look size 𝓛 a new x) $ learn ! (λ _. move ! (0 ∷ 6 ∷ []) $ loose_in R Z LZ ghosts ! nb no' h d.alloc x $ move ! (1 ∷ 2 ∷ 3 ∷ 4 ∷ 5 ∷ []) $
     in_a_block ! p (moves.glimpse 𝓛 F LF a γ k α ffalse) (id⊢ 𝓤 (never 𝓤)) (λ pb po is. fsplit ! $ drop ! $ fpick ! (λ y. fsplit3 ! $ move ! (2 ∷ []) $ fpick ! (λ so. drop ! $ move ! (0 ∷ 3 ∷ []) $
@@ -131,4 +131,4 @@ offer_spec 𝓤 𝓛 𝓜 𝓡 wired T L g d _ =
     exec ! 𝓣.C 𝓣.Λ Ev (after 4 fn.body) (at_ret Ev Post) $ sets ! (of_opd ! (get ! refl)) refl good $ move ! (2 ∷ []) $ feq_i ! (List Val) (vptr pb po ∷ []) (vptr pb po ∷ []) refl $ fjoin ! $ move ! (5 ∷ []) $
     use1 𝓛 (‵ (Back.own_val (Some l₀) (back ∷ []))) (Some-of 𝓛 Lr l₀ w) $ move ! (1 ∷ []) $ pair_in Ref Back ! ref (Some l₀) (vptr pb po) back $ move ! (1 ∷ 2 ∷ []) $
     nothing ! $ move ! (1 ∷ 0 ∷ []) $ fjoin ! $ nothing ! $ fjoin ! $ nothing ! $ fjoin ! $ move ! (1 ∷ 4 ∷ []) $ nothing ! $ move ! (2 ∷ 0 ∷ []) $ join ! $ move ! (1 ∷ 0 ∷ []) $ join ! $ move ! (3 ∷ 0 ∷ []) $ join ! $
-    use0 𝓛 (raw (fact 𝓤 (g.measure y.0 ≡ long))) (fact_i 𝓤 (g.measure y.0 ≡ long) (emp 𝓤) so_long) $ use0 𝓛 (raw (fact 𝓤 (x ≡ x))) (fact_i 𝓤 (x ≡ x) (emp 𝓤) refl) $ join ! $ use0 𝓛 (raw (fact 𝓤 ((n.known ≡ Some y.0) × Agrees k y.0))) (fact_i 𝓤 ((n.known ≡ Some y.0) × Agrees k y.0) (emp 𝓤) (refl, so)) $ join ! $ use0 𝓛 (raw (fact 𝓤 (γ ≡ m.now.of))) (fact_i 𝓤 (γ ≡ m.now.of) (emp 𝓤) (sym same)) $ join ! $ returns ! (look_at ! 0 refl) $ free_all ! refl $ keep ! (1 ∷ 2 ∷ 3 ∷ 0 ∷ []) $ by ! (leaves 𝓛 En hs c z v (ref, Some l₀) (tt, (tt, (n, tt))) (tt, (tt, (tt, tt))))))))))))))))))))))
+    use0 𝓛 (raw (fact 𝓤 (look y.0 ≡ size))) (fact_i 𝓤 (look y.0 ≡ size) (emp 𝓤) so_cast) $ use0 𝓛 (raw (fact 𝓤 (g.measure y.0 ≡ long))) (fact_i 𝓤 (g.measure y.0 ≡ long) (emp 𝓤) so_long) $ join ! $ use0 𝓛 (raw (fact 𝓤 (x ≡ x))) (fact_i 𝓤 (x ≡ x) (emp 𝓤) refl) $ join ! $ use0 𝓛 (raw (fact 𝓤 ((n.known ≡ Some y.0) × Agrees k y.0))) (fact_i 𝓤 ((n.known ≡ Some y.0) × Agrees k y.0) (emp 𝓤) (refl, so)) $ join ! $ use0 𝓛 (raw (fact 𝓤 (γ ≡ m.now.of))) (fact_i 𝓤 (γ ≡ m.now.of) (emp 𝓤) (sym same)) $ join ! $ returns ! (look_at ! 0 refl) $ free_all ! refl $ keep ! (1 ∷ 2 ∷ 3 ∷ 0 ∷ []) $ by ! (leaves 𝓛 En hs c z v (ref, Some l₀) (tt, (tt, (n, tt))) (tt, (tt, (tt, tt))))))))))))))))))))))

@@ -17,7 +17,7 @@ use denote.Param.{param, bounded}
 use denote.Steps.{nothing, opens, closes}
 use denote.Triple.Walked.{Stays, stay_ref, walk_of, Goes-ref}
 use Rattle.std.proofs.raw_atomic.Walks.{proved_at, leaves}
-use Rattle.table_core.specs.Entry.{EntryView, length_of, name_of, tie_of, mould_at}
+use Rattle.table_core.specs.Entry.{EntryView, bond_of, length_of, name_of, tie_of, mould_at}
 use Rattle.table_core.proofs.Renamed.{Row, Renamed, renames}
 use Rattle.table_core.specs.contracts.entry.steps.Entry.rename.{ended, clauses}
 use Rattle.table_core.specs.contracts.entry.steps.Entry.rename.Key.{name as #self}
@@ -44,7 +44,7 @@ rename_spec 𝓤 𝓛 𝓜 𝓡 wired T L g d _ =
     let n : EntryView = (e.0, e.1, γ, e.3) in move ! (6 ∷ 0 ∷ 7 ∷ 8 ∷ 9 ∷ []) $ closes ! tt E n ts b o $ move ! (4 ∷ 3 ∷ 5 ∷ 6 ∷ 7 ∷ []) $ closes ! tt E e' us b' o' $
     feq_i ! (List Val) z.0.4.1.0 (vptr b' o' ∷ []) are.1.0.0 $ fjoin3 ! $ nothing ! $ move ! (1 ∷ 0 ∷ []) $ fjoin ! $
     move ! (2 ∷ 3 ∷ []) $ feq_i ! (List Val) z.0.4.0 (vptr b o ∷ []) are.0.0 $ fjoin3 ! $ fjoin ! $ move ! (1 ∷ 3 ∷ []) $ join ! $ move ! (2 ∷ 0 ∷ []) $ join ! $
-    let Kept : Type 0 = (γ ≢ name_of e') × (length_of n ≡ length_of e) × (tie_of n ≡ tie_of e) × (mould_at n ≡ mould_at e) × (e' ≡ e') in
-    use0 𝓛 (raw (fact 𝓤 Kept)) (fact_i 𝓤 Kept (emp 𝓤) (apart, refl, refl, refl, refl)) $ feq_i ! (List Val) (vunit ∷ []) (vunit ∷ []) refl $
+    let Kept : Type 0 = (γ ≢ name_of e') × (length_of n ≡ length_of e) × (tie_of n ≡ tie_of e) × (mould_at n ≡ mould_at e) × (bond_of n ≡ bond_of e) × (e' ≡ e') in
+    use0 𝓛 (raw (fact 𝓤 Kept)) (fact_i 𝓤 Kept (emp 𝓤) (apart, refl, refl, refl, refl, refl)) $ feq_i ! (List Val) (vunit ∷ []) (vunit ∷ []) refl $
     sets ! (of_opd ! (unit_lit !)) refl (tt, tt) $
     returns ! (look_at ! 0 refl) $ free_all ! refl $ keep ! (2 ∷ 3 ∷ 0 ∷ 1 ∷ []) $ by ! (leaves 𝓛 En hs c z vunit tt (n, (e', tt)) (tt, (tt, tt)))))))))

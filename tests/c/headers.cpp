@@ -34,15 +34,6 @@ static bool compares_three_ways() {
 static bool compares_three_ways() { return true; }
 #endif
 
-// Types whose objects may keep their own addresses lie behind a pointer.
-struct Kept {
-  const Kept *self = this;
-  Kept() = default;
-  Kept(const Kept &) = delete;
-};
-static_assert(!kehldora::detail::cell<Kept>::in_place && !kehldora::detail::cell<std::mutex>::in_place);
-static_assert(kehldora::detail::cell<std::atomic<int>>::in_place && kehldora::detail::cell<const int *>::in_place);
-
 extern "C" void add(long number);
 extern "C" long total();
 

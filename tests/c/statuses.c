@@ -1,6 +1,5 @@
 /* Meets each status of each call except taken, in each size of an element, of both kinds, and looks at what the call left behind.
-   Prints a line for each call over each such element: its name, the words of the element and its kind, and the statuses that the
-   call had. */
+   Prints a line for each call: its name, and the statuses that it had. */
 #define _DEFAULT_SOURCE
 #include "check.h"
 #include "hooks.h"
@@ -11,17 +10,14 @@
 #include <sys/mman.h>
 #include <unistd.h>
 
-enum { COUNT_OF_SIZES = 6, MOST_WORDS = 8, MOST_CALLS = 40 };
-static const uint64_t SIZES[COUNT_OF_SIZES] = {1, 2, 3, 4, 6, 8};
+static const uint64_t SIZES[] = {1, 2, 3, 4, 6, 8};
+enum { MOST_WORDS = 8, MOST_CALLS = 40 };
 
-/* The size of the elements of the calls that are made now, by its number, and their kind. */
-static int size_of_calls = 0, kind_of_calls = 0;
-
-/* The statuses that each call had over elements of each size and kind, a bit for each. */
+/* The statuses that each call had, a bit for each. */
 static struct {
   const char *name;
   int length;
-  unsigned statuses[COUNT_OF_SIZES][2];
+  unsigned statuses;
 } calls[MOST_CALLS];
 
 /* Notes the status of a call of the library, and returns it. */
@@ -36,16 +32,18 @@ static kehldora_status noted(const char *call, kehldora_status status) {
   CHECK(i < MOST_CALLS - 1);
   calls[i].name = call;
   calls[i].length = length;
-  calls[i].statuses[size_of_calls][kind_of_calls] |= 1u << status;
+  calls[i].statuses |= 1u << status;
   return status;
 }
 
-static void print_noted(int call, int size, int kind) {
-  printf("%.*s %d %s", calls[call].length, calls[call].name, (int)SIZES[size], kind ? "opaque" : "value");
-  for (int status = KEHLDORA_DONE; status <= KEHLDORA_NULL; ++status)
-    if (calls[call].statuses[size][kind] >> status & 1)
-      printf(" %d", status);
-  printf("\n");
+static void print_noted(void) {
+  for (int i = 0; calls[i].name; ++i) {
+    printf("%.*s", calls[i].length, calls[i].name);
+    for (int status = KEHLDORA_DONE; status <= KEHLDORA_NULL; ++status)
+      if (calls[i].statuses >> status & 1)
+        printf(" %d", status);
+    printf("\n");
+  }
 }
 
 #undef EXPECT
@@ -498,25 +496,20 @@ static void refusals(uint64_t words, bool opaque) {
 }
 
 int main(void) {
-  for (int size = 0; size < COUNT_OF_SIZES; ++size)
+  for (int i = 0; i < 6; ++i)
     for (int opaque = 0; opaque < 2; ++opaque) {
-      size_of_calls = size;
-      kind_of_calls = opaque;
-      opening(SIZES[size], opaque);
-      hands(SIZES[size], opaque);
-      growths(SIZES[size], opaque);
-      reads(SIZES[size], opaque);
-      moves(SIZES[size], opaque);
-      pending(SIZES[size], opaque);
-      lists(SIZES[size], opaque);
-      refusals(SIZES[size], opaque);
-      empty_handles();
+      opening(SIZES[i], opaque);
+      hands(SIZES[i], opaque);
+      growths(SIZES[i], opaque);
+      reads(SIZES[i], opaque);
+      moves(SIZES[i], opaque);
+      pending(SIZES[i], opaque);
+      lists(SIZES[i], opaque);
+      refusals(SIZES[i], opaque);
     }
+  empty_handles();
   texts();
   CHECK(hook_blocks() == 0);
-  for (int call = 0; calls[call].name; ++call)
-    for (int size = 0; size < COUNT_OF_SIZES; ++size)
-      for (int opaque = 0; opaque < 2; ++opaque)
-        print_noted(call, size, opaque);
+  print_noted();
   return 0;
 }

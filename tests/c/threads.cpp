@@ -201,7 +201,7 @@ void twenty_vectors() {
   }
 }
 
-// Threads that come and go: their hands are used again.
+// More threads than a vector would have shares for, if each took one away.
 void short_threads() {
   concurrent_vector<unsigned> v;
   for (unsigned i = 0; i < 1200; i += THREADS)

@@ -77,8 +77,7 @@ fn gives_back<R: Wait>(rt: &R, writer: &mut BufferedWriter<'_, u64>, bound: u64)
     is_told && is_back && writer.buffered().iter().copied().eq(0..bound)
 }
 
-// Tests whether n numbers fill a vector through a buffer of this bound, which the hand then has seen, and others stay in
-// the buffer.
+// Tests whether n numbers fill a vector through a buffer of this bound, and others stay in the buffer.
 fn fills_vector<R: Wait>(
     rt: &R,
     alloc: Global,
@@ -91,14 +90,12 @@ fn fills_vector<R: Wait>(
     requires some { 0 < bound }
 {
     let mut writer = BufferedWriter::new(alloc, Writer::new(vector, hand), bound);
-    let is_new = writer.bound() == bound && writer.writer().hand().seen() == 0;
     let is_filled = push_below(rt, &mut writer, n) == Ok(()) && shows_below(vector, n);
-    let has_seen_all = writer.bound() == bound && writer.writer().hand().seen() == n;
     let is_back = gives_back(rt, &mut writer, bound as u64);
     let parts = writer.into_parts();
     let left = parts.1.len();
     drop(parts);
-    is_new && is_filled && has_seen_all && is_back && left == bound && shows_below(vector, n)
+    is_filled && is_back && left == bound && shows_below(vector, n)
 }
 
 // The same of a new vector with a limit of n.

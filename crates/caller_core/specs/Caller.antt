@@ -52,6 +52,11 @@ pub record Pushes {T : Type 0} (value : T) (old new : CallerView T) (place : ℕ
   pub here : token.place ≡ place
   pub won : WonPlace old.vector value old.hand new.hand token
 
+-- the token is of this place
+abbrev pub IsLastAt : {T : Type 0} → ℕ → Option (PlacedView T) → Type 0
+IsLastAt place None = ⊥
+IsLastAt place (Some placed) = placed.place ≡ place
+
 -- the token of this place has this value
 abbrev pub HasLast : {T : Type 0} → ℕ → T → Option (PlacedView T) → Type 0
 HasLast place value None = ⊥
@@ -65,3 +70,5 @@ pub record JoinsCallers {T : Type 0} (old other new : CallerView T) : Type 0 whe
   pub seen : (new.hand.seen ≡ old.hand.seen) ⊎ (new.hand.seen ≡ other.hand.seen)
   pub begins : IsPrefix old.hand.seen new.hand.seen
   pub also_begins : IsPrefix other.hand.seen new.hand.seen
+  pub begins_log : IsPrefix old.hand.log new.hand.log
+  pub also_begins_log : IsPrefix other.hand.log new.hand.log

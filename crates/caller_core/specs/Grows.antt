@@ -1,12 +1,14 @@
 -- What the calls leave of a caller that append several values, mend, look, and open a list again.
-use Rattle.std.specs.Prelude.{◌≡◌, ℕ, ◌+◌, ◌-◌, ◌<◌, ◌≤◌, List, Option, Some, None, Result, length, slice_get}
+use Rattle.std.specs.Prelude.{◌≡◌, ℕ, ◌+◌, ◌-◌, ◌<◌, ◌≤◌, List, [], ◌∷◌, Option, Some, None, Result, length, slice_get}
 use Rattle.claim_core.specs.declared.run.Run.{Run}
-use Rattle.claim_core.specs.Hand.{IsWholeHand, SeesSize, seen_size}
+use Rattle.claim_core.specs.Hand.{HandView, IsWholeHand, SeesSize, seen_size}
+use Rattle.claim_core.specs.History.{AddsEvents, enough_event, raise_event}
 use Rattle.grow_core.specs.Vector.{VectorView, SeesMore, limit_of, layout_of}
 use Rattle.grow_core.specs.Token.{PlacedView}
 use Rattle.grow_core.specs.Grown.{GrownView, values_of}
 use Rattle.grow_core.specs.Growth.{WonRun, WonPlaces}
 use Rattle.grow_core.specs.Making.{WonMade}
+use Rattle.grow_core.specs.Logs.{Fate, AllFilled, LogsGrowth, LogsWin}
 use Rattle.grow_core.specs.Closing.{KeepsValues}
 use Rattle.grow_core.specs.Slices.{IsInOneSegment}
 use Rattle.quiet_core.specs.QuietList.{QuietList}
@@ -49,6 +51,16 @@ pub record WinsPlaces {T : Type 0} (n : ℕ) (old new : CallerView T) (place : �
   pub run : Run
   pub here : run.from ≡ place
   pub won : WonPlaces n old.hand new.hand run
+
+-- the history gets the claim of n places from this one on, and what became of each
+abbrev pub LogsRunFrom : {T : Type 0} → VectorView T → Fate → ℕ → HandView → HandView → ℕ → Type 0
+LogsRunFrom vector fate n old new place = LogsGrowth vector fate old new (record { from = place; n = n })
+
+-- it gets the claim up to a size of n places from this one on, and their fills; or that the size, which this is, was enough
+pub record LogsUpTo {T : Type 0} (vector : VectorView T) (size : ℕ) (old new : HandView) (place n : ℕ) : Type 0 where
+  pub some : 0 < n
+      → LogsWin vector (λ index. raise_event index size (record { from = place; n = n })) AllFilled (record { from = place; n = n }) old new
+  pub none : n ≡ 0 → AddsEvents old.log (enough_event size place ∷ []) new.log
 
 -- the caller mended the place: its last token has the place and the value
 pub record Mends {T : Type 0} (place : ℕ) (value : T) (old new : CallerView T) : Type 0 where

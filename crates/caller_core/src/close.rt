@@ -2,7 +2,7 @@
 ghost use Rattle.std.specs.Prelude.{◌≡◌, IfOk, IfErr, OnOk, length};
 ghost use Rattle.claim_core.specs.Hand.{IsWholeHand, seen_size};
 ghost use Rattle.grow_core.specs.Vector.{limit_of, layout_of};
-ghost use Rattle.grow_core.specs.Closing.{KeepsValues, IsClosedFrom};
+ghost use Rattle.grow_core.specs.Closing.{KeepsValues, IsClosedFrom, IsListOfHistory};
 
 use crate::caller::{Caller, Hub};
 use quiet_core::Quiet;
@@ -18,6 +18,8 @@ impl<T: Drop> Caller<T> {
         ensures layout { IfOk result (λ list. list.layout ≡ layout_of self.vector) }
         ensures opened { IfOk result (λ list. KeepsValues self.vector.opened list.members) }
         ensures closed { IfOk result (λ list. IsClosedFrom self.vector list.closed) }
+        ensures history { IfOk result (λ list.
+            IsListOfHistory self.vector self.hand.log list.members) }
         ensures back { IfErr result (λ back. back ≡ self) }
     {
         let (hub, hand, last) = self.into_parts();

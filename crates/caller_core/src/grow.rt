@@ -5,8 +5,9 @@ ghost use Rattle.grow_core.specs.Vector.{VectorView, limit_of};
 ghost use Rattle.grow_core.specs.Grown.{IsGrownOf};
 ghost use Rattle.grow_core.specs.Growth.{Refuses, HasNoRoom, SaysFull};
 ghost use Rattle.grow_core.specs.AtLeast.{RefusesAtLeast};
+ghost use Rattle.grow_core.specs.Logs.{AllBroken, AllFilled, LogsRefusal, LogsRefusalUpTo};
 ghost use Rattle.caller_core.specs.Caller.{KeepsCaller, IsLastOf};
-ghost use Rattle.caller_core.specs.Grows.{GrowsBy, GrowsMade, GrowsUpTo, TellsLast, WinsPlaces, IsNoPlace};
+ghost use Rattle.caller_core.specs.Grows.{GrowsBy, GrowsMade, GrowsUpTo, LogsRunFrom, LogsUpTo, TellsLast, WinsPlaces, IsNoPlace};
 
 use crate::caller::Caller;
 use grow_core::{AtLeast, GrowError, Grown, Never, Placed, Source};
@@ -40,6 +41,12 @@ impl<T: Copy> Caller<T> {
             (Refuses self.old.vector (length values.now) tt self.old.hand self.new.hand) }
         ensures full { HasNoRoom self.old.vector (length values.now) self.old.hand
             → IsErrAnd result SaysFull }
+        // The history gets the claim of the run and what became of its places, or the event whose reply the refusal
+        // is.
+        ensures logs { IfOk result (LogsRunFrom self.old.vector AllFilled
+            (length values.now) self.old.hand self.new.hand) }
+        ensures logs_refusal { IfErr result
+            (LogsRefusal self.old.vector (length values.now) self.old.hand self.new.hand) }
         ensures kept { KeepsCaller self.old self.new }
         ensures last { OnErr result (self.new.last ≡ self.old.last) }
     {
@@ -54,6 +61,12 @@ impl<T: Copy> Caller<T> {
         ensures refused { IfErr result
             (Refuses self.old.vector n tt self.old.hand self.new.hand) }
         ensures full { HasNoRoom self.old.vector n self.old.hand → IsErrAnd result SaysFull }
+        // The history gets the claim of the run and what became of its places, or the event whose reply the refusal
+        // is.
+        ensures logs { IfOk result
+            (LogsRunFrom self.old.vector AllFilled n self.old.hand self.new.hand) }
+        ensures logs_refusal { IfErr result
+            (LogsRefusal self.old.vector n self.old.hand self.new.hand) }
         ensures kept { KeepsCaller self.old self.new }
         ensures last { OnErr result (self.new.last ≡ self.old.last) }
     {
@@ -72,6 +85,12 @@ impl<T: Drop> Caller<T> {
             (length (S.values source.now)) tt self.old.hand self.new.hand) }
         ensures full { HasNoRoom self.old.vector (length (S.values source.now)) self.old.hand
             → IsErrAnd result SaysFull }
+        // The history gets the claim of the run and what became of its places, or the event whose reply the refusal
+        // is.
+        ensures logs { IfOk result (LogsRunFrom self.old.vector AllFilled
+            (length (S.values source.now)) self.old.hand self.new.hand) }
+        ensures logs_refusal { IfErr result (LogsRefusal self.old.vector
+            (length (S.values source.now)) self.old.hand self.new.hand) }
         ensures kept { KeepsCaller self.old self.new }
         ensures last { OnErr result (self.new.last ≡ self.old.last) }
     {
@@ -91,6 +110,12 @@ impl<T: Drop> Caller<T> {
         ensures refused { IfErr result
             (Refuses self.old.vector n tt self.old.hand self.new.hand) }
         ensures full { HasNoRoom self.old.vector n self.old.hand → IsErrAnd result SaysFull }
+        // The history gets the claim of the run and what became of its places, or the event whose reply the refusal
+        // is.
+        ensures logs { IfOk result
+            (LogsRunFrom self.old.vector AllFilled n self.old.hand self.new.hand) }
+        ensures logs_refusal { IfErr result
+            (LogsRefusal self.old.vector n self.old.hand self.new.hand) }
         ensures kept { KeepsCaller self.old self.new }
         ensures last { OnErr result (self.new.last ≡ self.old.last) }
     {
@@ -113,6 +138,12 @@ impl<T: Drop> Caller<T> {
             (RefusesAtLeast self.old.vector size self.old.hand self.new.hand) }
         ensures enough { size ≤ seen_size self.old.hand → IsOkAnd result (λ (_, n). IsNoPlace n) }
         ensures full { limit_of self.old.vector < size → IsErrAnd result SaysFull }
+        // The history gets the claim of the run and what became of its places, or the event whose reply the refusal
+        // is.
+        ensures logs { IfOk result
+            (λ (place, n). LogsUpTo self.old.vector size self.old.hand self.new.hand place n) }
+        ensures logs_refusal { IfErr result
+            (LogsRefusalUpTo self.old.vector size self.old.hand self.new.hand) }
         ensures kept { KeepsCaller self.old self.new }
         ensures last { OnErr result (self.new.last ≡ self.old.last) }
     {
@@ -134,6 +165,12 @@ impl<T: Drop> Caller<T> {
         ensures refused { IfErr result
             (Refuses self.old.vector n tt self.old.hand self.new.hand) }
         ensures full { HasNoRoom self.old.vector n self.old.hand → IsErrAnd result SaysFull }
+        // The history gets the claim of the run and what became of its places, or the event whose reply the refusal
+        // is.
+        ensures logs { IfOk result
+            (LogsRunFrom self.old.vector AllBroken n self.old.hand self.new.hand) }
+        ensures logs_refusal { IfErr result
+            (LogsRefusal self.old.vector n self.old.hand self.new.hand) }
         ensures kept { KeepsCaller self.old self.new }
         ensures last { self.new.last ≡ self.old.last }
     {

@@ -1,7 +1,8 @@
 //! How a caller gets the address of values. They stay there as long as the vector.
-ghost use Rattle.std.specs.Prelude.{◌≡◌, ◌+◌, ◌<◌, IfOk, IfErr, IfSome};
+ghost use Rattle.std.specs.Prelude.{◌≡◌, ◌+◌, ◌<◌, ◌⊎◌, IfOk, IfErr, IfSome};
 ghost use Rattle.claim_core.specs.Hand.{seen_size};
 ghost use Rattle.grow_core.specs.Vector.{IsHandOf, SeesMore, limit_of};
+ghost use Rattle.grow_core.specs.Logs.{LogsNoValue, LogsValue};
 ghost use Rattle.grow_core.specs.Read.{IsDueAt, IsInRange};
 ghost use Rattle.caller_core.specs.Caller.{KeepsCaller};
 ghost use Rattle.caller_core.specs.Grows.{AreSideBySide};
@@ -21,6 +22,8 @@ fn address_at<'a, T: Element>(
     ensures below { IfOk result (λ _. place < seen_size hand.new) }
     ensures refused { IfErr result (IsDueAt vector.now place hand.old hand.new) }
     ensures in_range { place < seen_size hand.old → IfErr result IsInRange }
+    ensures looks { IfOk result (λ _. LogsValue vector.now place hand.old hand.new) }
+    ensures looks_refusal { IfErr result (LogsNoValue vector.now place hand.old hand.new) }
     ensures hand { SeesMore hand.old hand.new }
 {
     let no_token: Option<&'a Placed<T>> = None;
@@ -40,6 +43,9 @@ fn run_at<T: Element>(
     ensures run { IfOk result (λ (_, n). AreSideBySide vector.now place n) }
     ensures refused { IfErr result (IsDueAt vector.now place hand.old hand.new) }
     ensures in_range { place < seen_size hand.old → IfErr result IsInRange }
+    ensures looks { IfOk result (λ _. (hand.new ≡ hand.old)
+        ⊎ LogsValue vector.now place hand.old hand.new) }
+    ensures looks_refusal { IfErr result (LogsNoValue vector.now place hand.old hand.new) }
     ensures hand { SeesMore hand.old hand.new }
 {
     let values = vector.shown_run(place);
@@ -72,6 +78,9 @@ impl<T: Element> Caller<T> {
         ensures refused { IfErr result
             (IsDueAt self.old.vector place self.old.hand self.new.hand) }
         ensures in_range { place < seen_size self.old.hand → IfErr result IsInRange }
+        // The history gets the look, with what it returned.
+        ensures looks { IfOk result (λ _. LogsValue self.old.vector place self.old.hand self.new.hand) }
+        ensures looks_refusal { IfErr result (LogsNoValue self.old.vector place self.old.hand self.new.hand) }
         ensures kept { KeepsCaller self.old self.new }
         ensures last { self.new.last ≡ self.old.last }
     {
@@ -85,6 +94,10 @@ impl<T: Element> Caller<T> {
         ensures refused { IfErr result
             (IsDueAt self.old.vector place self.old.hand self.new.hand) }
         ensures in_range { place < seen_size self.old.hand → IfErr result IsInRange }
+        // Values that a walk finds add nothing to the history. Otherwise it gets the look, with what it returned.
+        ensures looks { IfOk result (λ _. (self.new.hand ≡ self.old.hand)
+            ⊎ LogsValue self.old.vector place self.old.hand self.new.hand) }
+        ensures looks_refusal { IfErr result (LogsNoValue self.old.vector place self.old.hand self.new.hand) }
         ensures kept { KeepsCaller self.old self.new }
         ensures last { self.new.last ≡ self.old.last }
     {

@@ -2,6 +2,7 @@
 ghost use Rattle.std.specs.Prelude.{◌≡◌, ◌<◌, ◌↔◌, IfErr, OnOk, OnErr, IsErrOf};
 ghost use Rattle.claim_core.specs.Hand.{seen_size};
 ghost use Rattle.grow_core.specs.Vector.{limit_of};
+ghost use Rattle.grow_core.specs.Logs.{LogsLaid, LogsNoMend, mend_steps};
 ghost use Rattle.grow_core.specs.Mend.{IsMendDue, IsSeen};
 ghost use Rattle.caller_core.specs.Caller.{KeepsCaller};
 ghost use Rattle.caller_core.specs.Grows.{Mends};
@@ -18,6 +19,11 @@ impl<T: Drop> Caller<T> {
         ensures value_back { IfErr result (λ (_, back). back ≡ value) }
         ensures in_range { place < seen_size self.old.hand
             → IfErr result (λ (error, _). IsSeen error) }
+        // The history gets the look at a place that is not below the size, the mend and its fill, or the look that found the
+        // place pending or filled.
+        ensures mends { OnOk result (LogsLaid self.old.vector place self.old.hand self.new.hand
+            (mend_steps (limit_of self.old.vector) place)) }
+        ensures mends_refusal { IfErr result (LogsNoMend self.old.vector place self.old.hand self.new.hand) }
         ensures kept { KeepsCaller self.old self.new }
         ensures last { OnErr result (self.new.last ≡ self.old.last) }
     {

@@ -3,6 +3,7 @@ ghost use Rattle.std.specs.Prelude.{◌≡◌, ◌<◌, IfOk, IfErr, OnErr, IsEr
 ghost use Rattle.claim_core.specs.Hand.{seen_size};
 ghost use Rattle.grow_core.specs.Vector.{limit_of};
 ghost use Rattle.grow_core.specs.Growth.{Refuses, HasNoRoom, SaysFull};
+ghost use Rattle.grow_core.specs.Logs.{LogsPush, LogsRefusal};
 ghost use Rattle.caller_core.specs.Caller.{KeepsCaller, Pushes};
 
 use crate::caller::Caller;
@@ -16,6 +17,9 @@ impl<T: Drop> Caller<T> {
         ensures refused { IfErr result
             (Refuses self.old.vector 1 value self.old.hand self.new.hand) }
         ensures full { HasNoRoom self.old.vector 1 self.old.hand → IsErrAnd result SaysFull }
+        // The history gets the claim of the place and its fill, or the event whose reply the refusal is.
+        ensures logs { IfOk result (LogsPush self.old.vector self.old.hand self.new.hand) }
+        ensures logs_refusal { IfErr result (LogsRefusal self.old.vector 1 self.old.hand self.new.hand) }
         ensures kept { KeepsCaller self.old self.new }
         ensures last { OnErr result (self.new.last ≡ self.old.last) }
     {

@@ -1,9 +1,10 @@
 //! How a caller reads.
-ghost use Rattle.std.specs.Prelude.{◌≡◌, ◌<◌, Some, IfErr, IfSome, IsSomeAnd, IsOkAnd};
+ghost use Rattle.std.specs.Prelude.{◌≡◌, ◌<◌, ◌↔◌, Some, IfOk, IfErr, IfSome, IsSome, IsSomeAnd, IsOkAnd};
 ghost use Rattle.claim_core.specs.Hand.{seen_size};
 ghost use Rattle.grow_core.specs.Vector.{IsHandOf, IsOpenedAt, SeesMore};
+ghost use Rattle.grow_core.specs.Logs.{LogsNoValue, LogsValue};
 ghost use Rattle.grow_core.specs.Read.{IsDueAt, IsInRange};
-ghost use Rattle.caller_core.specs.Caller.{KeepsCaller, HasLast, IsLastOf};
+ghost use Rattle.caller_core.specs.Caller.{KeepsCaller, HasLast, IsLastAt, IsLastOf};
 
 use crate::caller::Caller;
 use grow_core::{AtError, Hand, Placed, Shared};
@@ -13,6 +14,7 @@ use grow_core::{AtError, Hand, Placed, Shared};
 fn token_of<T>(last: &Option<Placed<T>>, place: u64) -> Option<&Placed<T>>
     ensures of { (x : T) → HasLast place x last.now → IsSomeAnd result (λ p. p.now.value ≡ x) }
     ensures here { IfSome result (λ p. (last.now ≡ Some p.now) × (p.now.place ≡ place)) }
+    ensures some { IsSome result ↔ IsLastAt place last.now }
 {
     match last {
         Some(placed) if placed.place() == place => Some(placed),
@@ -34,6 +36,12 @@ fn copy_at<T: Copy>(
     ensures opened { (x : T) → IsOpenedAt vector.now place x → IsOkAnd result (λ value. value ≡ x) }
     ensures refused { IfErr result (IsDueAt vector.now place hand.old hand.new) }
     ensures in_range { place < seen_size hand.old → IfErr result IsInRange }
+    // The last place is read by its token, which adds nothing to the history. A look at any other place is added.
+    ensures token { IsLastAt place last.now → hand.new ≡ hand.old }
+    ensures looks { (IsLastAt place last.now → ⊥)
+        → IfOk result (λ _. LogsValue vector.now place hand.old hand.new) }
+    ensures looks_refusal { (IsLastAt place last.now → ⊥)
+        → IfErr result (LogsNoValue vector.now place hand.old hand.new) }
     ensures hand { SeesMore hand.old hand.new }
 {
     let at = vector.at(hand, place, token_of(last, place))?;
@@ -55,6 +63,12 @@ impl<T: Copy> Caller<T> {
         ensures refused { IfErr result
             (IsDueAt self.old.vector place self.old.hand self.new.hand) }
         ensures in_range { place < seen_size self.old.hand → IfErr result IsInRange }
+        // The last place is read by its token, which adds nothing to the history. A look at any other place is added.
+        ensures token { IsLastAt place self.old.last → self.new.hand ≡ self.old.hand }
+        ensures looks { (IsLastAt place self.old.last → ⊥)
+            → IfOk result (λ _. LogsValue self.old.vector place self.old.hand self.new.hand) }
+        ensures looks_refusal { (IsLastAt place self.old.last → ⊥)
+            → IfErr result (LogsNoValue self.old.vector place self.old.hand self.new.hand) }
         ensures kept { KeepsCaller self.old self.new }
         ensures last { self.new.last ≡ self.old.last }
     {

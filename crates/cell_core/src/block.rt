@@ -220,7 +220,8 @@ impl<T, A: Allocator, B: Kind> Block<T, A, B> {
     fn look_unfilled(&self, offset: u64, found: u64, sight: RawSight<T>) -> Look<'_, T>
         requires { (offset < block_len self.now) × (sight.of ≡ cell_at self.now offset)
             × (sight.found ≡ found) × (found ≢ filled_state) }
-        ensures { IsLookAt self.now offset result }
+        ensures look { IsLookAt self.now offset result }
+        ensures state { IsLookOf found result }
     {
         match self.unfilled(offset, found, sight) {
             Look::Empty => Look::Empty,

@@ -1,5 +1,6 @@
 -- The first of the places that are begun, and those after it.
 use Rattle.std.proofs.Common.{◌≡◌, ℕ, zero, suc, ◌+◌, ◌-◌, ◌<◌, ◌≤◌, [], ◌∷◌, length, Option, Some, None, refl, sym, ap, subst, ◌∙◌, arith}
+use Rattle.std.specs.Prelude.{IsSome}
 use Rattle.cell_core.specs.Slot.{Names, cell_in}
 use Rattle.cell_core.specs.Block as block
 use Rattle.cell_core.specs.Block.{BlockView, PenView, IsPenAt, block_len, cell_at}
@@ -32,14 +33,14 @@ others_run block o n run pen rest is parts =
     let long = cells_length n (suc o) block.cells in
     (record { at = omega (arith, parts.3, is.at); cells = sym more; values = parts.4 }, omega (arith, parts.5, long, ap length more))
 
-pub begun_after : {T : Type 0} (segment : Segment T) (place left : ℕ) (run : RunView T) (pen : PenView) (others : Option (RunView T))
-    → segment.from ≤ place → AreBegun segment place left (Some run) → PartsFirst run pen others → AreBegun segment (place + 1) (left - 1) others
-begun_after segment place left run pen None from begun parts = tt
-begun_after segment place left run pen (Some rest) from (zero, is, less, few, within) parts = absurd (omega arith)
-begun_after segment place left run pen (Some rest) from (suc n, is, less, few, within) parts =
+pub begun_after : {T : Type 0} (laid : ℕ) (segment : Segment T) (place left : ℕ) (run : RunView T) (pen : PenView) (others : Option (RunView T))
+    → segment.from ≤ place → AreBegun laid segment place left (Some run) → PartsFirst run pen others → AreBegun laid segment (place + 1) (left - 1) others
+begun_after laid segment place left run pen None from begun parts = tt
+begun_after laid segment place left run pen (Some rest) from (low, zero, is, less, few, within) parts = absurd (omega arith)
+begun_after laid segment place left run pen (Some rest) from (low, suc n, is, less, few, within) parts =
     let after = others_run segment.block.now (place - segment.from) n run pen rest is parts in
     let here : suc (place - segment.from) ≡ place + 1 - segment.from = omega arith in
-    (n, rw (← here) after.0, after.1, omega arith, omega arith)
+    (low, n, rw (← here) after.0, after.1, omega arith, omega arith)
 
 -- the token of the place that the pen fills
 module _ {T : Type 0} (v : VectorView T) (segment : Segment T) (place n : ℕ) (pen : PenView) (cell : block.PlacedView T) (is : IsSegmentOf v segment)
@@ -66,17 +67,24 @@ module _ {T : Type 0} (v : VectorView T) (segment : Segment T) (place n : ℕ) (
       }
 
 -- a segment that does not end there stays, so what is begun of it does
-pub begun_stays : {T : Type 0} (old new : Segment T) (place left : ℕ) (begun : Option (RunView T)) → AreBegun old place left begun → (place < old.end → new ≡ old)
-    → AreBegun new place left begun
-begun_stays old new place left None begun same = tt
-begun_stays old new place left (Some run) begun same =
-    let is : new ≡ old = same (omega (arith, begun.2, begun.4)) in subst (λ s. AreBegun s place left (Some run)) (sym is) begun
+pub begun_stays : {T : Type 0} (laid : ℕ) (old new : Segment T) (place left : ℕ) (begun : Option (RunView T)) → AreBegun laid old place left begun
+    → (place < old.end → new ≡ old) → AreBegun laid new place left begun
+begun_stays laid old new place left None begun same = tt
+begun_stays laid old new place left (Some run) begun same =
+    let is : new ≡ old = same (omega (arith, begun.3, begun.5)) in subst (λ s. AreBegun laid s place left (Some run)) (sym is) begun
 
-pub unwritten : {T : Type 0} (segment : Segment T) (place left : ℕ) (begun : Option (RunView T)) → AreBegun segment place left begun → AreUnwritten begun
-unwritten segment place left None begun = tt
-unwritten segment place left (Some run) begun = begun.1.values
+pub unwritten : {T : Type 0} (laid : ℕ) (segment : Segment T) (place left : ℕ) (begun : Option (RunView T)) → AreBegun laid segment place left begun → AreUnwritten begun
+unwritten laid segment place left None begun = tt
+unwritten laid segment place left (Some run) begun = begun.2.values
 
-pub begun_few : {T : Type 0} (segment : Segment T) (place left : ℕ) (begun : Option (RunView T)) → AreBegun segment place left begun → begun_count begun ≤ left
-begun_few segment place left None begun = omega arith
-begun_few segment place left (Some run) begun =
-    let long = cells_length begun.0 (place - segment.from) segment.block.now.cells in omega (arith, ap length begun.1.cells, long, begun.3)
+pub begun_few : {T : Type 0} (laid : ℕ) (segment : Segment T) (place left : ℕ) (begun : Option (RunView T)) → AreBegun laid segment place left begun
+    → begun_count begun ≤ left
+begun_few laid segment place left None begun = omega arith
+begun_few laid segment place left (Some run) begun =
+    let long = cells_length begun.1 (place - segment.from) segment.block.now.cells in omega (arith, ap length begun.2.cells, long, begun.4)
+
+-- if some are begun, the place is in a segment of the opened list, when one that begins there ends there
+pub begun_low : {T : Type 0} (laid : ℕ) (segment : Segment T) (place left : ℕ) (begun : Option (RunView T)) → AreBegun laid segment place left begun
+    → (segment.from < laid → segment.end ≤ laid) → IsSome begun → place < laid
+begun_low laid segment place left None begun ends some = absurd (cc)
+begun_low laid segment place left (Some run) begun ends some = let end = ends begun.0 in omega (arith, begun.3, begun.5, end)

@@ -10,7 +10,9 @@ use Rattle.cell_core.specs.Member.{MemberView}
 use Rattle.table_core.specs.Table.{TableView}
 use Rattle.grow_core.specs.Keys.{KeyRow}
 use Rattle.grow_core.specs.Parts.{values_in, filled_in}
-use Rattle.grow_core.specs.Vector.{VectorView, IsShared, BeginsAsOpened}
+use Rattle.tie_core.specs.Tie.{Tie}
+use Rattle.grow_core.specs.Ties.{TagRow}
+use Rattle.grow_core.specs.Vector.{VectorView, IsShared, BeginsAsOpened, vector_of}
 
 -- whether a member has a value
 filled_at : {T : Type 0} (members : List (Option T)) (place : ℕ) (member : Option T) → slice_get members place ≡ Some member
@@ -29,8 +31,8 @@ first_is law word members long filled place member there =
     ap (λ (fs : List Bool). get_or fs place false) filled ∙ filled_at members place member there in
     law word place (omega (arith, within, long)) ∙ ap (λ (b : Bool). Some (if b then value_cell place else broken_cell)) told
 
-pub begins_as_opened : {T : Type 0} {word : WordView} {segments : TableView} {keys : KeyRow} {known : List (MemberView T)} {ended : Lft} {count : ℕ} {vector : VectorView T}
-    → FirstPlacesAreTold → IsShared word segments keys known ended count → record { word = word; segments = segments; opened = values_in known } ≡ vector
+pub begins_as_opened : {T : Type 0} {word : WordView} {segments : TableView} {keys : KeyRow} {known : List (MemberView T)} {ended : Lft} {count : ℕ} {cells : Tie} {tags : TagRow} {vector : VectorView T}
+    → FirstPlacesAreTold → IsShared word segments keys known ended count cells tags → vector_of word segments known count ≡ vector
     → BeginsAsOpened vector
 begins_as_opened {T} {word} {segments} {keys} {known} law shared view_is =
     let long : length (values_in known) ≡ word.base = length-map known (λ (m : MemberView T). m.value) ∙ shared.whole.all in

@@ -6,7 +6,8 @@ use base.Fml.{Lft}
 use mathlib.Core.Logic.{dite}
 use native.Mathlib.Decide.{ℕ_discrete}
 use Rattle.cell_core.specs.Slot.{Names}
-use Rattle.cell_core.specs.Block.{BlockView, PlacedView, AreFilledFrom, IsMemberAt, IsPlacedAt, cell_at}
+use Rattle.cell_core.specs.Block.{BlockView, PlacedView, AreAtFilled, AreFilledFrom, IsMemberAt, IsPlacedAt, cell_at}
+use Rattle.cell_core.specs.Fixed.{stage_in}
 use Rattle.cell_core.specs.Member.{MemberView, HasNames}
 use Rattle.grow_core.specs.Parts.{AreBrokenIn, values_in}
 use Rattle.grow_core.specs.Closing.{AreSettled, KeepsKnown, KeepsKnownFrom}
@@ -46,9 +47,9 @@ none_broken epoch (m ∷ found) some = (λ none. absurd (some 0 m refl none), no
 
 -- cells that were found filled are settled as they are
 pub settled_found : {T : Type 0} (block : BlockView) (offset : ℕ) (opened : List (MemberView T)) (place : ℕ) (row row' found : List (MemberView T)) (epoch : Lft) (n : ℕ)
-    → row' ≡ row ++ found → length found ≡ n → AreFilledFrom block offset found → KeepsKnownFrom opened place found
+    → row' ≡ row ++ found → length found ≡ n → AreFilledFrom block offset found → AreAtFilled block offset n → KeepsKnownFrom opened place found
     → AreSettled block block offset opened place row row' epoch n
-settled_found block offset opened place row row' found epoch n is all filled keeps = record {
+settled_found block offset opened place row row' found epoch n is all filled full keeps = record {
   settled = found;
   row = is;
   all = all;
@@ -57,6 +58,7 @@ settled_found block offset opened place row row' found epoch n is all filled kee
   names = λ i m got. named_of (cell_at block (offset + i)) m.value m.name m.epoch (filled i m got).0.known (filled i m got).1;
   values = keeps;
   broken = none_broken epoch found (λ i m got. (filled i m got).1);
+  stages = λ i m got s at. ((λ some. full i s (let near = within_length found i m got in omega (arith, near, all)) at), (λ is. (filled i m got).1));
   before = λ q low. refl;
   after = λ q past. refl;
 }
@@ -66,7 +68,7 @@ pub settled_none : {T : Type 0} (block : BlockView) (offset : ℕ) (opened : Lis
     → AreSettled block block offset opened place row row epoch 0
 settled_none {T} block offset opened place row epoch =
     let gone : (i : ℕ) (m : MemberView T) → slice_get {X = MemberView T} [] i ≡ Some m → ⊥ = (λ i m is. let z = is in cc) in
-    settled_found block offset opened place row row [] epoch 0 (sym (append-nil row)) refl (λ i m is. absurd (gone i m is)) (λ i k m at is. absurd (gone i m is))
+    settled_found block offset opened place row row [] epoch 0 (sym (append-nil row)) refl (λ i m is. absurd (gone i m is)) (λ i s less at. absurd (omega (arith, less))) (λ i k m at is. absurd (gone i m is))
 
 module _ {T : Type 0} (old mid : BlockView) (offset : ℕ) (opened : List (MemberView T)) (place : ℕ) (row row' : List (MemberView T)) (epoch : Lft) (n : ℕ)
     (run : AreSettled old mid offset opened place row row' epoch n) where
@@ -103,6 +105,11 @@ module _ {T : Type 0} (old mid : BlockView) (offset : ℕ) (opened : List (Membe
             (λ (right : (j : ℕ) × (i ≡ length run.settled + j) × (slice_get next.settled j ≡ Some x)). next.values right.0 u x (ap (slice_get opened) (spot i right.0 right.1) ∙ at) right.2)
             (slice_get-append run.settled next.settled i x got);
         broken = broken_append epoch run.settled next.settled run.broken next.broken;
+        stages = λ i x got s at. ⊎_elim
+            (λ (left : slice_get run.settled i ≡ Some x). run.stages i x left s at)
+            (λ (right : (j : ℕ) × (i ≡ length run.settled + j) × (slice_get next.settled j ≡ Some x)). next.stages right.0 x right.2 s
+            (ap (λ (c : Names). stage_in c) (run.after (offset + n + right.0) (omega arith)) ∙ ap (λ (o : ℕ). stage_in (cell_at old o)) (cell i right.0 right.1) ∙ at))
+            (slice_get-append run.settled next.settled i x got);
         before = λ q low. next.before q (omega (arith, low)) ∙ run.before q low;
         after = λ q past. next.after q (omega (arith, past)) ∙ run.after q (omega (arith, past));
       }

@@ -13,8 +13,9 @@ use Rattle.claim_core.specs.Hand.{HandView, KeepsOwn, AddsRun, OwnsPlace, SeesOw
 use Rattle.claim_core.specs.Laws.{OwnPlacesStay, AddedPlacesAreOfTheRun, JoinedPlacesAreOfEither}
 use Rattle.cell_core.specs.Member.{MemberView}
 use Rattle.table_core.specs.Table.{TableView}
-use Rattle.grow_core.specs.Vector.{VectorView, IsShared}
-use Rattle.grow_core.specs.Parts.{values_in}
+use Rattle.tie_core.specs.Tie.{Tie}
+use Rattle.grow_core.specs.Ties.{TagRow}
+use Rattle.grow_core.specs.Vector.{VectorView, IsShared, vector_of}
 use Rattle.grow_core.specs.Keys.{KeyRow, AreKeys, KeepsKeys, HasKeysOfRun, IsKeyed, key_at, mark_of, layout_in}
 
 module _ (old new : HandView) (row row' : KeyRow) (sees : SeesOwn old) (keyed : IsKeyed old row) (keys : AreKeys old.of.mark row') (kept : KeepsKeys row row') where
@@ -96,15 +97,15 @@ none_is_none None is some = absurd (cc some)
 none_is_none (Some x) is some = absurd (cc is)
 
 -- and they know its layout
-pub hand_layout : {T : Type 0} {word : WordView} {segments : TableView} {keys : KeyRow} {known : List (MemberView T)} {ended : Lft} {count : ℕ} {vector : VectorView T} (hand : HandView)
-    → IsShared word segments keys known ended count → record { word = word; segments = segments; opened = values_in known } ≡ vector
+pub hand_layout : {T : Type 0} {word : WordView} {segments : TableView} {keys : KeyRow} {known : List (MemberView T)} {ended : Lft} {count : ℕ} {cells : Tie} {tags : TagRow} {vector : VectorView T} (hand : HandView)
+    → IsShared word segments keys known ended count cells tags → vector_of word segments known count ≡ vector
     → hand.of ≡ vector.word → segments.layout ≡ layout_in hand.of.mark
 hand_layout hand shared view_is ours =
     sym (ap layout_in shared.mark) ∙ (ap (λ (v : VectorView _). layout_in v.word.mark) view_is ∙ sym (ap (λ (w : WordView). layout_in w.mark) ours))
 
 -- a vector's hands are marked with the layout and the names of its segments
-pub mark_is : {T : Type 0} {word : WordView} {segments : TableView} {keys : KeyRow} {known : List (MemberView T)} {ended : Lft} {count : ℕ} {vector : VectorView T} {claims hand : HandView}
-    → IsShared word segments keys known ended count → record { word = word; segments = segments; opened = values_in known } ≡ vector
+pub mark_is : {T : Type 0} {word : WordView} {segments : TableView} {keys : KeyRow} {known : List (MemberView T)} {ended : Lft} {count : ℕ} {cells : Tie} {tags : TagRow} {vector : VectorView T} {claims hand : HandView}
+    → IsShared word segments keys known ended count cells tags → vector_of word segments known count ≡ vector
     → claims ≡ hand → hand.of ≡ vector.word → mark_of segments ≡ claims.of.mark
 mark_is shared view_is hand_is ours =
     sym shared.mark ∙ (ap (λ (v : VectorView _). v.word.mark) view_is ∙ (sym (ap (λ (w : WordView). w.mark) ours) ∙ sym (ap (λ (h : HandView). h.of.mark) hand_is)))

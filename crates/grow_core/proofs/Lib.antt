@@ -1,6 +1,14 @@
 pub mod Later
 pub mod Logs
+pub mod Adds
+pub mod Works
+pub mod TiedSteps
+pub mod Entries
+pub mod FinishedPlaces
+pub mod TiedCells
+pub mod Wins
 pub mod Places
+pub mod Entered
 pub mod OpenedValues
 pub mod Filling
 pub mod KnownPlaces
@@ -9,7 +17,13 @@ pub mod BegunPlaces
 pub mod KeyRows
 pub mod FirstPlaces
 pub mod Cells
+pub mod Claims
 pub mod Settled
+pub mod LastKeys
+pub mod StillOpen
+pub mod Fixing
+pub mod ListLength
+pub mod Unties
 pub mod FoundFilled
 pub mod Stopped
 pub mod Made
@@ -20,3 +34,4 @@ pub mod Counted
 pub mod Copying
 pub mod Breaking
 pub mod PlainSegments
+pub mod Loops

@@ -1,5 +1,5 @@
 -- The parts of a vector: where a place lies, and what is kept where one cell is written.
-use Rattle.std.proofs.Common.{◌≡◌, ◌≢◌, ℕ, zero, suc, ◌+◌, ◌-◌, ◌^◌, ◌<◌, ◌≤◌, List, [], ◌∷◌, ◌++◌, length, length-set, refl, sym, ap, ◌∙◌, subst, ⊎_elim, arith}
+use Rattle.std.proofs.Common.{◌≡◌, ◌≢◌, ℕ, zero, suc, ◌+◌, ◌-◌, ◌^◌, ◌<◌, ◌≤◌, List, [], ◌∷◌, ◌++◌, Option, length, length-set, refl, sym, ap, ◌∙◌, subst, ⊎_elim, arith}
 use Rattle.std.proofs.lemmas.Bool.{cases_lt}
 use Rattle.std.proofs.Math.Arith.{lt_of_le-ne}
 use Rattle.std.specs.Prelude.{Some, None, slice_get, slice_set, slice_index, IsSome}
@@ -14,6 +14,7 @@ use Rattle.cell_core.specs.Member.{MemberView, HasNames}
 use Rattle.cell_core.specs.Slot.{Names}
 use Rattle.table_core.specs.Table.{TableView, KeyView, IsKeyOf, IsBlockOf}
 use Rattle.grow_core.specs.Keys.{KeyRow, IsKeyAt, key_at, mark_of}
+use Rattle.grow_core.specs.Closing.{untied}
 use Rattle.grow_core.specs.Token.{place_in}
 use Rattle.grow_core.specs.Parts.{AreMembers, AreWhole, AreBrokenIn, IsBrokenIn, values_in}
 
@@ -26,6 +27,13 @@ starts_le f (suc j) (suc k) le = segment_end-le f j k (omega arith)
 -- a place below where a segment begins is in one before it
 pub segment_below : (f segment place count : ℕ) → HasPlace f segment place → place < segment_start f count → segment < count
 segment_below f segment place count has below = ⊎_elim (λ lt. lt) (λ ge. let le = starts_le f count segment ge in let from = has.from in absurd (omega arith)) (cases_lt segment count)
+
+-- a segment that begins before the end of the first `count` segments ends there or before
+pub opened_ends : (f k count laid : ℕ) → laid ≡ segment_start f count → segment_start f k < laid → segment_end f k ≤ laid
+opened_ends f k zero laid is low = absurd (omega (arith, is, low))
+opened_ends f k (suc c) laid is low =
+    ⊎_elim (λ lt. let le = segment_end-le f k c (omega (arith, lt)) in omega (arith, le, is))
+    (λ ge. let le = starts_le f (suc c) k ge in absurd (omega (arith, le, low, is))) (cases_lt k (suc c))
 
 -- the value at a place, of what is known there
 pub value_at : {T : Type 0} (known : List (MemberView T)) (i : ℕ) (m : MemberView T) → slice_get known i ≡ Some m → slice_get (values_in known) i ≡ Some m.value
@@ -112,6 +120,18 @@ kept_at old new offset m len same was = record {
   known = subst (λ (c : Names). HasNames c m.value m.name m.epoch) (sym same) was.known;
 }
 
+-- what is known of a cell is known of it with another tie, and so is what is known of a cell of a block
+pub untied_names : {T : Type 0} (old new : Names) (v : Option T) (name : ℕ) (epoch : Lft) → untied new ≡ untied old → HasNames old v name epoch → HasNames new v name epoch
+untied_names old new (Some x) name epoch same known = known ∙ sym (ap (λ (c : Names). c.value_name) same)
+untied_names old new None name epoch same known = known ∙ sym (ap (λ (c : Names). c.epoch) same)
+
+pub untied_at : {T : Type 0} (old new : BlockView) (offset : ℕ) (m : MemberView T) → block_len new ≡ block_len old → untied (cell_at new offset) ≡ untied (cell_at old offset)
+    → IsMemberAt old offset m → IsMemberAt new offset m
+untied_at old new offset m len same was = record {
+  within = (let within = was.within in omega (arith, len, within));
+  known = untied_names (cell_at old offset) (cell_at new offset) m.value m.name m.epoch same was.known;
+}
+
 module _ {T : Type 0} (f : ℕ) (row row' : KeyRow) (known known' : List (MemberView T)) (segment offset n : ℕ) (key key' : KeyView) where
   abbrev place : ℕ
   place = place_in f segment offset
@@ -120,7 +140,7 @@ module _ {T : Type 0} (f : ℕ) (row row' : KeyRow) (known known' : List (Member
   pub members_changed : AreMembers f row known → segment < 40 → key_at row segment ≡ Some key → key_at row' segment ≡ Some key'
       → ((s : ℕ) → s ≢ segment → key_at row' s ≡ key_at row s)
       → block_len key'.block ≡ block_len key.block
-      → ((q : ℕ) → q < offset → cell_at key'.block q ≡ cell_at key.block q) → ((q : ℕ) → offset + n ≤ q → cell_at key'.block q ≡ cell_at key.block q)
+      → ((q : ℕ) → q < offset → untied (cell_at key'.block q) ≡ untied (cell_at key.block q)) → ((q : ℕ) → offset + n ≤ q → untied (cell_at key'.block q) ≡ untied (cell_at key.block q))
       → ((q : ℕ) → q < place → slice_get known' q ≡ slice_get known q) → ((q : ℕ) → place + n ≤ q → slice_get known' q ≡ slice_get known q)
       → ((i : ℕ) (m : MemberView T) → i < n → slice_get known' (place + i) ≡ Some m → IsMemberAt key'.block (offset + i) m)
       → place + n ≤ segment_end f segment → AreMembers f row' known'
@@ -128,9 +148,9 @@ module _ {T : Type 0} (f : ℕ) (row row' : KeyRow) (known known' : List (Member
       dite (ℕ_discrete s segment)
       (λ same. let same_key : Some key' ≡ Some k = sym has' ∙ ap (key_at row') (sym same) ∙ at in let is_key : key' ≡ k = (let z = same_key in cc) in
       let starts = ap (segment_start f) same in
-      let still : slice_get known' (place_in f s o) ≡ slice_get known (place_in f s o) → cell_at key'.block o ≡ cell_at key.block o → IsMemberAt k.block o m = (λ known_same cell_same.
+      let still : slice_get known' (place_in f s o) ≡ slice_get known (place_in f s o) → untied (cell_at key'.block o) ≡ untied (cell_at key.block o) → IsMemberAt k.block o m = (λ known_same cell_same.
       let was : IsMemberAt key.block o m = are segment o key m small has (subst (λ (x : ℕ). place_in f x o < segment_end f x) same inside) (ap (λ (x : ℕ). slice_get known (place_in f x o)) (sym same) ∙ sym known_same ∙ is) in
-      subst (λ (u : KeyView). IsMemberAt u.block o m) is_key (kept_at key.block key'.block o m len cell_same was)) in
+      subst (λ (u : KeyView). IsMemberAt u.block o m) is_key (untied_at key.block key'.block o m len cell_same was)) in
       ⊎_elim (λ lt. still (known_before (place_in f s o) (omega (arith, lt, starts))) (cells_before o lt))
       (λ ge. ⊎_elim
       (λ lt. let here : offset + (o - offset) ≡ o = omega (arith, ge) in let at_place : place + (o - offset) ≡ place_in f s o = omega (arith, ge, starts) in
@@ -166,7 +186,7 @@ module _ {T : Type 0} (f : ℕ) (names : List ℕ) (table' : TableView) (row : K
   pub written_cells : AreWhole f names row known len limit count → table'.layout ≡ f → segment < 40 → segment < segment_count f → place_in f segment offset + n ≤ segment_end f segment
       → key_at row segment ≡ Some key → ((j : ℕ) → j ≢ segment → slice_index table'.names j ≡ slice_index names j) → IsKeyOf table' segment block key'
       → block_len block ≡ block_len key.block
-      → ((q : ℕ) → q < offset → cell_at block q ≡ cell_at key.block q) → ((q : ℕ) → offset + n ≤ q → cell_at block q ≡ cell_at key.block q)
+      → ((q : ℕ) → q < offset → untied (cell_at block q) ≡ untied (cell_at key.block q)) → ((q : ℕ) → offset + n ≤ q → untied (cell_at block q) ≡ untied (cell_at key.block q))
       → ((q : ℕ) → q < place_in f segment offset → slice_get known' q ≡ slice_get known q) → ((q : ℕ) → place_in f segment offset + n ≤ q → slice_get known' q ≡ slice_get known q)
       → ((i : ℕ) (m : MemberView T) → i < n → slice_get known' (place_in f segment offset + i) ≡ Some m → IsMemberAt block (offset + i) m)
       → length known' ≡ len' → len' ≤ limit → len' ≤ segment_start f count → AreWhole table'.layout table'.names row' known' len' limit count
@@ -196,8 +216,8 @@ module _ {T : Type 0} (f : ℕ) (names : List ℕ) (table' : TableView) (row : K
             (λ same. subst IsSome (sym (ap (key_at row') same ∙ here)) (some_is key'))
             (λ other. subst IsSome (sym (away s other)) (whole.there s low));
         of = members_changed f row row' known known' segment offset n key key' whole.of small has here away (ap block_len (sym is_block) ∙ same_len)
-            (λ q low. subst (λ (b : BlockView). cell_at b q ≡ cell_at key.block q) is_block (cells_before q low))
-            (λ q past. subst (λ (b : BlockView). cell_at b q ≡ cell_at key.block q) is_block (cells_after q past)) known_before known_after
+            (λ q low. subst (λ (b : BlockView). untied (cell_at b q) ≡ untied (cell_at key.block q)) is_block (cells_before q low))
+            (λ q past. subst (λ (b : BlockView). untied (cell_at b q) ≡ untied (cell_at key.block q)) is_block (cells_after q past)) known_before known_after
             (λ i m low is. subst (λ (b : BlockView). IsMemberAt b (offset + i) m) is_block (there i m low is)) inside;
       })
 
@@ -211,7 +231,7 @@ pub written_whole : {T : Type 0} (f : ℕ) (names : List ℕ) (table' : TableVie
     → length known' ≡ len' → len' ≤ limit → len' ≤ segment_start f count → AreWhole table'.layout table'.names (slice_set row segment (Some key')) known' len' limit count
 written_whole f names table' row known known' segment offset len len' limit count key key' block whole same_layout small few inside has others of same_len cells elsewhere there all within below =
     written_cells f names table' row known known' segment offset 1 len len' limit count key key' block whole same_layout small few (omega (arith, inside)) has others of same_len
-    (λ q low. cells q (λ e. omega (arith, low, e))) (λ q past. cells q (λ e. omega (arith, past, e)))
+    (λ q low. ap untied (cells q (λ e. omega (arith, low, e)))) (λ q past. ap untied (cells q (λ e. omega (arith, past, e))))
     (λ q low. elsewhere q (λ e. omega (arith, low, e))) (λ q past. elsewhere q (λ e. omega (arith, past, e)))
     (λ i m low is. let here : offset ≡ offset + i = omega (arith, low) in let at : place_in f segment offset ≡ place_in f segment offset + i = omega (arith, low) in
     subst (λ (o : ℕ). IsMemberAt block o m) here (there m (ap (slice_get known') at ∙ is)))
@@ -270,6 +290,29 @@ cut_whole f names names' row known len limit count whole low_len others =
       named = λ s k low at. let other : s ≢ count = gone s k at in let was = whole.named s k low (sym (away s other) ∙ at) in record { layout = was.layout; at = was.at; within = was.within; named = others s other ∙ was.named };
       long = λ s k low at. whole.long s k low (sym (away s (gone s k at)) ∙ at);
       there = λ s low. let other : s ≢ count = (λ e. omega (arith, e, low)) in subst IsSome (sym (away s other)) (whole.there s (omega (arith, low)));
+      of = λ s o k m low at inside got. whole.of s o k m low (sym (away s (gone s k at)) ∙ at) inside got;
+    }
+
+-- the entry behind the last segment is not set any more
+pub cleared_whole : {T : Type 0} (f : ℕ) (names names' : List ℕ) (row : KeyRow) (known : List (MemberView T)) (len limit count : ℕ)
+    → AreWhole f names row known len limit count → count < segment_count f → ((j : ℕ) → (j ≡ count → ⊥) → slice_index names' j ≡ slice_index names j)
+    → AreWhole f names' (slice_set row count None) known len limit count
+cleared_whole f names names' row known len limit count whole small others =
+    let row' : KeyRow = slice_set row count None in
+    let here : key_at row' count ≡ None = get_or-set_same row count None None (omega (arith, small, whole.rows, whole.layout.0)) in
+    let away : (s : ℕ) → s ≢ count → key_at row' s ≡ key_at row s = (λ s other. get_or-set_other row count s None None other) in
+    let gone : (s : ℕ) (k : KeyView) → key_at row' s ≡ Some k → s ≡ count → ⊥ = (λ s k at same. let e : None ≡ Some k = sym here ∙ ap (key_at row') (sym same) ∙ at in let z = e in cc) in
+    record {
+      layout = whole.layout;
+      limited = whole.limited;
+      within = whole.within;
+      all = whole.all;
+      rows = length-set row count None ∙ whole.rows;
+      few = whole.few;
+      inside = whole.inside;
+      named = λ s k low at. let other : s ≢ count = gone s k at in let was = whole.named s k low (sym (away s other) ∙ at) in record { layout = was.layout; at = was.at; within = was.within; named = others s other ∙ was.named };
+      long = λ s k low at. whole.long s k low (sym (away s (gone s k at)) ∙ at);
+      there = λ s low. let other : s ≢ count = (λ e. omega (arith, e, low)) in subst IsSome (sym (away s other)) (whole.there s low);
       of = λ s o k m low at inside got. whole.of s o k m low (sym (away s (gone s k at)) ∙ at) inside got;
     }
 

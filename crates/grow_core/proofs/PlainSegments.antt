@@ -1,14 +1,13 @@
 -- Segments stay plain: no entry of theirs is tied, and no cell.
-use Rattle.std.proofs.Common.{◌≡◌, ◌≢◌, ℕ, zero, suc, ◌+◌, ◌<◌, List, [], ◌∷◌, Option, Some, None, refl, sym, ap, ◌∙◌, subst}
+use Rattle.std.proofs.Common.{◌≡◌, ◌≢◌, ℕ, zero, suc, ◌+◌, List, [], ◌∷◌, Option, Some, None, refl, sym, ap, ◌∙◌, subst, arith}
 use mathlib.Core.Logic.{dite}
 use native.Mathlib.Decide.{ℕ_discrete}
-use Rattle.seg_core.specs.Segment.{segment_count}
 use Rattle.cell_core.specs.Block.{BlockView, KeepsOtherCells, RenewsCell, StaysPlain, cell_at}
 use Rattle.cell_core.specs.Run.{cells_from}
 use Rattle.cell_core.specs.Slot.{Names, ArePlain, IsPlain, cell_in}
 use Rattle.table_core.specs.Table.{TableView, IsLengthOf, IsPlainAt, KeepsOtherBonds, entry_bond}
 use Rattle.table_core.specs.Entry.{tie_in}
-use Rattle.grow_core.specs.Ties.{ArePlainSegments, StayPlain}
+use Rattle.grow_core.specs.Ties.{ArePlainBelow, StayPlain}
 
 -- each cell of some that are plain
 plain_in : (γs : List Names) → ArePlain γs → (i : ℕ) → IsPlain (cell_in γs i)
@@ -51,21 +50,24 @@ plain_settled old new offset None same another plain = (another refl).2 plain
 plain_settled old new offset (Some x) same another plain = subst (λ (b : BlockView). IsPlain (cell_at b offset)) (sym (same (some_value x))) plain
 
 -- an entry that is tied as it was is plain if it was
-plain_other : (old new : TableView) (j : ℕ) → new.layout ≡ old.layout → entry_bond new j ≡ entry_bond old j → IsPlainAt old j → IsPlainAt new j
+pub plain_other : (old new : TableView) (j : ℕ) → new.layout ≡ old.layout → entry_bond new j ≡ entry_bond old j → IsPlainAt old j → IsPlainAt new j
 plain_other old new j layout same at = record {
   tie = ap tie_in same ∙ at.tie;
   mould = λ n is. same ∙ at.mould n (subst (λ (f : ℕ). IsLengthOf f j n) layout is);
 }
 
 -- one entry is replaced by a plain one
-pub plain_kept : (old new : TableView) (k : ℕ) → new.layout ≡ old.layout → KeepsOtherBonds old new k → IsPlainAt new k → ArePlainSegments old
-    → ArePlainSegments new
-plain_kept old new k layout others here all j less =
-    dite (ℕ_discrete j k) (λ same. subst (IsPlainAt new) (sym same) here)
-    (λ other. plain_other old new j layout (others j other) (all j (subst (λ (f : ℕ). j < segment_count f) layout less)))
+pub plain_kept : (old new : TableView) (k n : ℕ) → new.layout ≡ old.layout → KeepsOtherBonds old new k → IsPlainAt new k → ArePlainBelow old n
+    → ArePlainBelow new n
+plain_kept old new k n layout others here all j less =
+    dite (ℕ_discrete j k) (λ same. subst (IsPlainAt new) (sym same) here) (λ other. plain_other old new j layout (others j other) (all j less))
 
 -- one entry is given up, and then set to a plain block
-pub plain_put : (old mid new : TableView) (k : ℕ) → mid.layout ≡ old.layout → new.layout ≡ mid.layout → KeepsOtherBonds old mid k → KeepsOtherBonds mid new k
-    → IsPlainAt new k → ArePlainSegments old → ArePlainSegments new
-plain_put old mid new k first later before after here all =
-    plain_kept old new k (later ∙ first) (λ j other. after j other ∙ before j other) here all
+pub plain_put : (old mid new : TableView) (k n : ℕ) → mid.layout ≡ old.layout → new.layout ≡ mid.layout → KeepsOtherBonds old mid k → KeepsOtherBonds mid new k
+    → IsPlainAt new k → ArePlainBelow old n → ArePlainBelow new n
+plain_put old mid new k n first later before after here all =
+    plain_kept old new k n (later ∙ first) (λ j other. after j other ∙ before j other) here all
+
+-- the next one is plain too
+pub plain_next : (table : TableView) (n : ℕ) → ArePlainBelow table n → IsPlainAt table n → ArePlainBelow table (n + 1)
+plain_next table n all here j less = dite (ℕ_discrete j n) (λ same. subst (IsPlainAt table) (sym same) here) (λ other. all j (omega (arith, less, other)))

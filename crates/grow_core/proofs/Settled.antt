@@ -8,18 +8,20 @@ use base.Fml.{Lft}
 use lib.Seq.{get_or-set_same, get_or-set_other}
 use mathlib.Core.Logic.{dite}
 use native.Mathlib.Decide.{ℕ_discrete}
-use Rattle.seg_core.specs.Segment.{segment_start, segment_end, segment_count, most_places, HasPlace}
+use Rattle.seg_core.specs.Segment.{segment_start, segment_end, segment_count}
 use Rattle.seg_core.specs.Laws.{OnePlace}
 use Rattle.seg_core.proofs.Doubling.{one_segment}
 use Rattle.cell_core.specs.Block.{BlockView, IsMemberAt, KeepsOtherCells, block_len, cell_at}
+use Rattle.cell_core.specs.Fixed.{HasValueByStage}
+use Rattle.cell_core.specs.Slot.{Names}
 use Rattle.cell_core.specs.Member.{MemberView, HasNames}
 use Rattle.table_core.specs.Table.{KeyView, IsBlockOf}
-use Rattle.grow_core.specs.Keys.{KeyRow, IsKeyAt, AreKeys, HasKeysOfPlaces, key_at, mark_of, layout_in, names_in}
+use Rattle.grow_core.specs.Keys.{KeyRow, IsKeyAt, AreKeys, key_at, mark_of, layout_in, names_in}
 use Rattle.grow_core.specs.Token.{PlacedView, place_in}
 use Rattle.grow_core.specs.Parts.{AreLong, AreMembers, AreWhole, HasFirstKeys, AreBrokenIn, IsBrokenIn, values_in}
 use Rattle.grow_core.specs.Vector.{VectorView, IsPlacedOf, layout_of}
-use Rattle.grow_core.specs.Closing.{AreSettled, IsClosing, IsKept, IsKeptOf, KeepsKnown, KeepsValuesBelow}
-use Rattle.grow_core.proofs.Places.{value_at, pushed_there, pushed_elsewhere, within_length, kept_at, broken_more, broken_append, segment_below, all_places}
+use Rattle.grow_core.specs.Closing.{AreSettled, IsClosing, IsKept, IsKeptOf, KeepsKnown, KeepsValuesBelow, untied}
+use Rattle.grow_core.proofs.Places.{untied_at, value_at, pushed_there, pushed_elsewhere, within_length, kept_at, broken_more, broken_append, segment_below}
 use Rattle.grow_core.proofs.KeyRows.{none_is_none}
 
 -- the row has the keys of the first n segments and no other: those of the opened list, if that has them
@@ -128,9 +130,9 @@ module _ {T : Type 0} (old new : BlockView) (offset : ℕ) (opened : List (Membe
   -- the next cell is settled too
   pub settled_more : (newer : BlockView) (known : Option (MemberView T)) (m : MemberView T) (row'' : List (MemberView T)) → row'' ≡ row' ++ m ∷ []
       → MatchOption known (length opened ≤ place + n) (λ k. slice_get opened (place + n) ≡ Some k) → IfSome known (λ k. KeepsKnown k.value m.value)
-      → IsMemberAt newer (offset + n) m → m.name ≡ (cell_at new (offset + n)).value_name → IsBrokenIn epoch m → block_len newer ≡ block_len new
+      → HasValueByStage (cell_at new (offset + n)) m.value → IsMemberAt newer (offset + n) m → m.name ≡ (cell_at new (offset + n)).value_name → IsBrokenIn epoch m → block_len newer ≡ block_len new
       → KeepsOtherCells new newer (offset + n) → AreSettled old newer offset opened place row row'' epoch (n + 1)
-  settled_more newer known m row'' pushed had keeps is named broken len others =
+  settled_more newer known m row'' pushed had keeps by is named broken len others =
       let all : length run.settled ≡ n = run.all in
       record {
         settled = run.settled ++ m ∷ [];
@@ -147,6 +149,10 @@ module _ {T : Type 0} (old new : BlockView) (offset : ℕ) (opened : List (Membe
             (λ same. subst (λ (u : MemberView T). KeepsKnown k.value u.value) (last m x i same got) (keeps_value opened (place + n) m known had keeps k (ap (λ (j : ℕ). slice_get opened (place + j)) (sym same) ∙ at)))
             (λ other. run.values i k x at (earlier m x i other got));
         broken = broken_more epoch run.settled m run.broken broken;
+        stages = λ i x got. dite (ℕ_discrete i n)
+            (λ same. subst (λ (u : Names × MemberView T). HasValueByStage u.0 u.1.value)
+            (λ j. ((run.after (offset + n) (omega arith) ∙ ap (λ (k : ℕ). cell_at old (offset + k)) (sym same)) j, last m x i same got j)) by)
+            (λ other. run.stages i x (earlier m x i other got));
         before = λ q low. others q (λ e. omega (arith, e, low)) ∙ run.before q low;
         after = λ q past. others q (λ e. omega (arith, e, past)) ∙ run.after q (omega (arith, past));
       }
@@ -161,8 +167,8 @@ module _ {T : Type 0} (f : ℕ) (mark : List ℕ) (before : KeyRow) (names : Lis
       ∙ (λ i. (cell_at (same i) (sym cell i)).value_name) ∙ sym of.cell.named
 
   module _ (segment offset : ℕ) (old key : KeyView) (small : segment < 40) (first : segment < count) (has : key_at before segment ≡ Some old) (has' : key_at row segment ≡ Some key) (here : length known ≡ place_in f segment offset) where
-    -- each cell from the next one on is the one that it was
-    pub same_cell_still : (i : ℕ) → cell_at key.block (offset + i) ≡ cell_at old.block (offset + i)
+    -- each cell from the next one on is the one that it was, except for its tie
+    pub same_cell_still : (i : ℕ) → untied (cell_at key.block (offset + i)) ≡ untied (cell_at old.block (offset + i))
     same_cell_still i = kept.later segment (offset + i) old key small has has' (let e = here in omega (arith, e))
 
     -- what was known of it is known still
@@ -172,40 +178,43 @@ module _ {T : Type 0} (f : ℕ) (mark : List ℕ) (before : KeyRow) (names : Lis
         let at : length known + i ≡ place_in f segment (offset + i) = (let e = here in omega (arith, e)) in
         let was : IsMemberAt old.block (offset + i) m = are segment (offset + i) old m small has (omega (arith, inside)) (ap (slice_get opened) (sym at) ∙ is) in
         let was_long = kept.long segment old small has in
-        kept_at old.block key.block (offset + i) m (omega (arith, long, was_long)) (same_cell_still i) was
+        untied_at old.block key.block (offset + i) m (omega (arith, long, was_long)) (same_cell_still i) was
 
-    -- the places of the next n cells are members
-    pub kept_settled : (names' : List ℕ) (key' : KeyView) (block : BlockView) (opened known' : List (MemberView T)) (epoch : Lft) (n : ℕ) → length row ≡ 40
+    -- the places of the next n cells are members; before these were settled their ties were fixed, and they are untied now
+    pub kept_settled : (names' : List ℕ) (key' : KeyView) (fixed settled block : BlockView) (opened known' : List (MemberView T)) (epoch : Lft) (n : ℕ) → length row ≡ 40
         → place_in f segment offset + n ≤ segment_end f segment → ((j : ℕ) → j ≢ segment → slice_index names' j ≡ slice_index names j)
-        → AreSettled key.block block offset opened (length known) known known' epoch n → key'.block ≡ block
+        → ((q : ℕ) → untied (cell_at fixed q) ≡ untied (cell_at key.block q)) → AreSettled fixed settled offset opened (length known) known known' epoch n
+        → ((q : ℕ) → offset + n ≤ q → untied (cell_at block q) ≡ untied (cell_at settled q)) → key'.block ≡ block
         → IsKeptOf f mark before names' (slice_set row segment (Some key')) known' count
-    kept_settled names' key' block opened known' epoch n rows inside others run is_block =
+    kept_settled names' key' fixed settled block opened known' epoch n rows inside others fixes run unties is_block =
         let row' : KeyRow = slice_set row segment (Some key') in
         let is_there : key_at row' segment ≡ Some key' = get_or-set_same row segment (Some key') None (omega (arith, small, rows)) in
         let away : (s : ℕ) → s ≢ segment → key_at row' s ≡ key_at row s = (λ s other. get_or-set_other row segment s (Some key') None other) in
-        let more : length known' ≡ length known + n = settled_length key.block block offset opened (length known) known known' epoch n run in
+        let more : length known' ≡ length known + n = settled_length fixed settled offset opened (length known) known known' epoch n run in
         record {
           layout = kept.layout;
           named = kept.named;
           long = kept.long;
           there = kept.there;
           of = λ s o k m low at within is. ⊎_elim
-              (λ lt. kept.of s o k m low at within (sym (settled_before key.block block offset opened (length known) known known' epoch n run (place_in f s o) lt) ∙ is))
+              (λ lt. kept.of s o k m low at within (sym (settled_before fixed settled offset opened (length known) known known' epoch n run (place_in f s o) lt) ∙ is))
               (λ ge. let near = within_length known' (place_in f s o) m is in
               let e : place_in f s o ≡ length known + (place_in f s o - length known) = omega (arith, ge) in
               let seg : s ≡ segment = one_segment f s segment (place_in f s o) (record { from = omega arith; before = within }) (record { from = omega (arith, ge, here); before = omega (arith, near, more, here, inside) }) in
               let starts = ap (segment_start f) seg in
               let off : o ≡ offset + (place_in f s o - length known) = omega (arith, e, here, starts) in
               let key_is : Some k ≡ Some old = sym at ∙ ap (key_at before) seg ∙ has in let old_is : k ≡ old = (let z = key_is in cc) in
-              let got : slice_get run.settled (place_in f s o - length known) ≡ Some m = sym (settled_there key.block block offset opened (length known) known known' epoch n run (place_in f s o - length known)) ∙ ap (slice_get known') (sym e) ∙ is in
-              run.names (place_in f s o - length known) m got ∙ ap (λ c. c.value_name) (same_cell_still (place_in f s o - length known)) ∙ (λ i. (cell_at (sym old_is i).block (sym off i)).value_name))
+              let got : slice_get run.settled (place_in f s o - length known) ≡ Some m = sym (settled_there fixed settled offset opened (length known) known known' epoch n run (place_in f s o - length known)) ∙ ap (slice_get known') (sym e) ∙ is in
+              run.names (place_in f s o - length known) m got ∙ ap (λ (c : Names). c.value_name) (fixes (offset + (place_in f s o - length known)))
+              ∙ ap (λ (c : Names). c.value_name) (same_cell_still (place_in f s o - length known)) ∙ (λ i. (cell_at (sym old_is i).block (sym off i)).value_name))
               (cases_lt (place_in f s o) (length known));
           later = λ s o a b low at at' past. dite (ℕ_discrete s segment)
               (λ same. let new_is : Some b ≡ Some key' = sym at' ∙ ap (key_at row') same ∙ is_there in let b_is : b ≡ key' = (let z = new_is in cc) in
               let old_is : Some a ≡ Some old = sym at ∙ ap (key_at before) same ∙ has in let a_is : a ≡ old = (let z = old_is in cc) in
               let starts = ap (segment_start f) same in
-              ap (λ (u : KeyView). cell_at u.block o) b_is ∙ ap (λ (u : BlockView). cell_at u o) is_block ∙ run.after o (omega (arith, starts, past, more, here))
-              ∙ kept.later segment o old key small has has' (omega (arith, starts, past, more)) ∙ ap (λ (u : KeyView). cell_at u.block o) (sym a_is))
+              let far : offset + n ≤ o = omega (arith, starts, past, more, here) in
+              ap (λ (u : KeyView). untied (cell_at u.block o)) b_is ∙ ap (λ (u : BlockView). untied (cell_at u o)) is_block ∙ unties o far ∙ ap untied (run.after o far) ∙ fixes o
+              ∙ kept.later segment o old key small has has' (omega (arith, starts, past, more)) ∙ ap (λ (u : KeyView). untied (cell_at u.block o)) (sym a_is))
               (λ other. kept.later s o a b low at (sym (away s other) ∙ at') (omega (arith, past, more)));
           after = λ s low ge. others s (λ same. omega (arith, same, ge, first)) ∙ kept.after s low ge;
         }
@@ -258,32 +267,18 @@ module _ {T : Type 0} (f : ℕ) (law : OnePlace) (vector : VectorView T) (placed
   same_member m same at agree =
       agree (name_of_token f (mark_of vector.segments) before names row known count the segment offset old vector placed m small has here within cell.1 same of at) ∙ ap Some (sym of.value)
 
-segment_ends_later : (f k : ℕ) → segment_start f k < segment_end f k
+pub segment_ends_later : (f k : ℕ) → segment_start f k < segment_end f k
 segment_ends_later f zero = pow_pos (0 + f)
 segment_ends_later f (suc k) = pow-lt (let e : k + f < suc k + f = omega arith in e)
 
--- the first segments have all places that were claimed: the opened list has the keys of those below the base,
--- and the hand of the others
-pub keys_enough : (f : ℕ) (opened own : KeyRow) (base size count first : ℕ) → HasFirstKeys opened first → base ≤ segment_start f first → HasKeysOfPlaces f own base size → f ≤ 8 → 1 ≤ f → count ≤ segment_count f
-    → (count < segment_count f → (key_at opened count ≡ None) × (key_at own count ≡ None)) → size ≤ most_places → size ≤ segment_start f count
-keys_enough f opened own base size count first there inside has most some few end small =
-    ⊎_elim (λ low. ⊎_elim (λ past. let place = segment_start f count in let in_it : HasPlace f count place = record { from = omega arith; before = segment_ends_later f count } in
-    absurd (⊎_elim (λ below. none_is_none (key_at opened count) (end low).0 (there count (segment_below f count place first in_it (omega (arith, below, inside)))))
-    (λ above. none_is_none (key_at own count) (end low).1 (has place count above past (omega (arith, low, some)) in_it)) (cases_lt place base))) (λ within. within) (cases_lt (segment_start f count) size))
-    (λ high. let all = all_places f most in
-    let same : segment_start f count ≡ segment_start f (segment_count f) = ap (segment_start f) (let e : count ≡ segment_count f = omega (arith, high, few) in e) in
-    omega (arith, same, all, small)) (cases_lt count (segment_count f))
-
 -- the state in which a vector begins to be closed
-pub closing_starts : {T : Type 0} (f : ℕ) (mark names : List ℕ) (opened own before again : KeyRow) (row none : List (MemberView T)) (epoch : Lft) (base limit first count size : ℕ)
+pub closing_starts : {T : Type 0} (f : ℕ) (mark names : List ℕ) (opened before again : KeyRow) (row none : List (MemberView T)) (epoch : Lft) (base limit first count size : ℕ)
     → AreWhole f names opened row base limit first → mark ≡ f ∷ names → none ≡ []
     → AreKeys (f ∷ names) before → AreLong f before → HasFirstKeys before count → count ≤ segment_count f
     → ((s : ℕ) → s < count → IsSome (key_at opened s) → key_at before s ≡ key_at opened s) → ((s : ℕ) → s < 40 → count ≤ s → key_at before s ≡ None)
-    → (count < segment_count f → (key_at opened count ≡ None) × (key_at own count ≡ None))
-    → ((s : ℕ) → s < 40 → key_at again s ≡ key_at before s) → length again ≡ 40 → HasKeysOfPlaces f own base size → base ≤ size → size ≤ limit
+    → ((s : ℕ) → s < 40 → key_at again s ≡ key_at before s) → length again ≡ 40 → size ≤ segment_start f count → base ≤ size → size ≤ limit
     → IsClosing f mark before names again row none epoch 0 limit count size
-closing_starts {T} f mark names opened own before again row none epoch base limit first count size whole same empty named long there few fits rest end twice rows has later most =
-    let limited = whole.limited.1 in
+closing_starts {T} f mark names opened before again row none epoch base limit first count size whole same empty named long there few fits rest twice rows enough later most =
     let gone : (i : ℕ) (m : MemberView T) → slice_get none i ≡ Some m → ⊥ = (λ i m is. let near = within_length none i m is in let no = ap length empty in omega (arith, near, no)) in
     let small = whole.layout.0 in
     record {
@@ -307,7 +302,7 @@ closing_starts {T} f mark names opened own before again row none epoch base limi
         long = long;
         there = there;
         of = λ s o k m low at inside is. absurd (gone (place_in f s o) m is);
-        later = λ s o a b low at at' past. let both : Some b ≡ Some a = sym at' ∙ twice s low ∙ at in let one : b ≡ a = (let z = both in cc) in ap (λ (u : KeyView). cell_at u.block o) one;
+        later = λ s o a b low at at' past. let both : Some b ≡ Some a = sym at' ∙ twice s low ∙ at in let one : b ≡ a = (let z = both in cc) in ap (λ (u : KeyView). untied (cell_at u.block o)) one;
         after = λ s low ge. ap (λ (xs : List ℕ). slice_index (names_in xs) s) (sym same);
       };
       first = λ s o k m low at inside is.
@@ -319,5 +314,5 @@ closing_starts {T} f mark names opened own before again row none epoch base limi
       values = λ p x below is. absurd (omega (arith, below));
       within = omega arith;
       most = most;
-      enough = keys_enough f opened own base size count first whole.there whole.inside has whole.layout.1 small few end (omega (arith, most, limited));
+      enough = enough;
     }

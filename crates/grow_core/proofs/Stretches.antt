@@ -4,7 +4,7 @@ use Rattle.std.specs.Prelude.{slice_get}
 use Rattle.std.proofs.lemmas.List.{length-map}
 use Rattle.cell_core.specs.Slot.{Names, cell_in}
 use Rattle.cell_core.specs.Block as block
-use Rattle.cell_core.specs.Block.{BlockView, IsPlacedIn, IsMemberAt, block_len}
+use Rattle.cell_core.specs.Block.{block_len}
 use Rattle.cell_core.specs.Member.{MemberView, HasNames}
 use Rattle.cell_core.specs.Run.{RunView, IsRunPenAt, cells_from, members_of}
 use Rattle.table_core.specs.Table.{KeyView, IsKeyIn, IsBlockOf}

@@ -11,6 +11,7 @@ use Rattle.grow_core.specs.declared.grow_to_at_least.Reached.TheVariants as reac
 use Rattle.grow_core.specs.Vector.{VectorView, SeesMore, limit_of}
 use Rattle.grow_core.specs.Growth.{KeepsMade, LosesPlace}
 use Rattle.grow_core.specs.Grown.{values_of}
+use Rattle.grow_core.specs.Steps.{IsNewRun}
 use Rattle.grow_core.specs.Making.{IsClaimed, Makes, WonMade}
 
 -- the size was large enough: the hand has then seen it, and nothing else of the hand has changed
@@ -45,6 +46,11 @@ ReachesSize vector to old new (reached.Enough size) = IsEnough to old new size
 abbrev pub IsSpared : Reached → Type 0
 IsSpared (reached.Won run) = ⊥
 IsSpared (reached.Enough size) = Unit {0}
+
+-- a run that the hand has claimed is the last that it has seen, and it knows no place of it begun
+abbrev pub IsNewIn : HandView → Reached → Type 0
+IsNewIn hand (reached.Won run) = IsNewRun hand run
+IsNewIn hand (reached.Enough size) = Unit {0}
 
 -- when each refusal of a growth up to a size comes, by what the hand had seen before the call
 abbrev pub IsDueUpTo : {T V E : Type 0} → VectorView T → ℕ → HandView → GrowError T V E → Type 0

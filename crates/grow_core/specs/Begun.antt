@@ -3,11 +3,12 @@ use Rattle.std.specs.Prelude.{◌≡◌, ℕ, ◌+◌, ◌-◌, ◌<◌, ◌≤�
 use Rattle.cell_core.specs.Run.{RunView, IsRunPenAt}
 use Rattle.grow_core.specs.declared.fill.Segment.{Segment}
 
--- the run is of places of the segment from this one on, `left` of them at most; or no place is begun
-abbrev pub AreBegun : {T : Type 0} → Segment T → ℕ → ℕ → Option (RunView T) → Type 0
-AreBegun segment place left None = Unit {0}
-AreBegun segment place left (Some run) =
-    (n : ℕ) × IsRunPenAt segment.block.now (place - segment.from) n run × (0 < n) × (n ≤ left)
+-- the run is of places of the segment from this one on, `left` of them at most, in a segment before this end; or no place
+-- is begun
+abbrev pub AreBegun : {T : Type 0} → ℕ → Segment T → ℕ → ℕ → Option (RunView T) → Type 0
+AreBegun laid segment place left None = Unit {0}
+AreBegun laid segment place left (Some run) =
+    (segment.from < laid) × (n : ℕ) × IsRunPenAt segment.block.now (place - segment.from) n run × (0 < n) × (n ≤ left)
     × (place + n ≤ segment.end)
 
 -- none of the places that are begun has its value yet

@@ -1,16 +1,30 @@
 -- How a vector is closed into a list, and what is kept of it there.
-use Rattle.std.specs.Prelude.{◌≡◌, ◌≢◌, ℕ, ◌+◌, ◌<◌, ◌≤◌, List, ◌++◌, Option, Some, None, slice_get, slice_index, length}
+use Rattle.std.specs.Prelude.{◌≡◌, ◌≢◌, ℕ, ◌+◌, ◌<◌, ◌≤◌, List, ◌++◌, Option, Some, None, slice_get, slice_index, length, IsSome}
 use Rattle.std.specs.Coded.{coded_option}
+use Rattle.book_core.specs.declared.cells.Cell.{Cell}
+use Rattle.book_core.specs.declared.cells.Cell.TheVariants as cells
+use Rattle.book_core.specs.Cells.{CellList}
+use Rattle.book_core.specs.History.{IsHistory}
+use Rattle.tie_core.specs.Tie.{Tie, tie_coded, Stage}
+use Rattle.claim_core.specs.History.{Log, first_list}
+use Rattle.claim_core.specs.Gain.{IsTiedTo}
+use Rattle.claim_core.specs.Word.{WordView}
+use Rattle.claim_core.specs.Hand.{HandView, hand_coded, IsWholeHand, seen_size}
+use Rattle.claim_core.specs.Plays.{ShowsAt, cell_stage}
+use Rattle.cell_core.specs.Fixed.{HasValueByStage, stage_in}
+use Rattle.cell_core.specs.Slot.{Names, ArePlain}
+use Rattle.cell_core.specs.Mould.{mould_of, row_mould}
 use base.Fml.{Lft}
 use base.Stored.{Coded, coded×, coded_ℕ, coded_list, coded_via}
-use Rattle.seg_core.specs.Segment.{segment_start, segment_end, most_segments}
+use Rattle.seg_core.specs.Segment.{segment_start, segment_end, segment_count, most_segments}
 use Rattle.cell_core.specs.Block.{BlockView, IsMemberAt, block_len, cell_at}
 use Rattle.cell_core.specs.Member.{MemberView}
-use Rattle.table_core.specs.Table.{KeyView}
+use Rattle.table_core.specs.Table.{TableView, KeyView, IsPlainAt}
 use Rattle.grow_core.specs.Keys.{KeyRow, AreKeys, key_at, mark_of, layout_in, names_in}
 use Rattle.grow_core.specs.Token.{PlacedView, place_in}
 use Rattle.grow_core.specs.Parts.{AreLong, AreMembers, AreWhole, HasFirstKeys, AreBrokenIn, values_in}
-use Rattle.grow_core.specs.Vector.{VectorView, IsPlacedOf}
+use Rattle.grow_core.specs.Ties.{TagRow, ArePlainBelow, IsBlockBy, KnowsRow}
+use Rattle.grow_core.specs.Vector.{VectorView, IsPlacedOf, IsShared}
 
 -- the list, by what is known of it, was closed from the vector, and is as it was then
 abbrev pub IsClosedFrom : {T : Type 0} → VectorView T → Option (List ℕ) → Type 0
@@ -25,9 +39,13 @@ abbrev pub KeepsValues : {T : Type 0} → List (Option T) → List (Option T) �
 KeepsValues {T} old new =
     (place : ℕ) (x : T) → slice_get old place ≡ Some (Some x) → slice_get new place ≡ Some (Some x)
 
+-- the same cell without its tie
+abbrev pub untied : Names → Names
+untied γ = record γ { tied = None }
+
 -- what is kept of a vector whose segments had this mark: the keys of its first `count` segments, as they were
--- before. The names of the values are those of the cells there; each cell after the known ones is unchanged,
--- and so is each segment after the first ones
+-- before. The names of the values are those of the cells there; each cell after the known ones is unchanged
+-- except for its tie, and so is each segment after the first ones
 pub record IsKeptOf {T : Type 0} (f : ℕ) (mark : List ℕ) (before : KeyRow) (names : List ℕ) (row : KeyRow)
     (known : List (MemberView T)) (count : ℕ) : Type 0 where
   pub layout : layout_in mark ≡ f
@@ -40,7 +58,7 @@ pub record IsKeptOf {T : Type 0} (f : ℕ) (mark : List ℕ) (before : KeyRow) (
       → m.name ≡ (cell_at key.block offset).value_name
   pub later : (segment offset : ℕ) (old new : KeyView) → segment < most_segments → key_at before segment ≡ Some old
       → key_at row segment ≡ Some new
-      → length known ≤ place_in f segment offset → cell_at new.block offset ≡ cell_at old.block offset
+      → length known ≤ place_in f segment offset → untied (cell_at new.block offset) ≡ untied (cell_at old.block offset)
   pub after : (segment : ℕ) → segment < most_segments → count ≤ segment
       → slice_index names segment ≡ slice_index (names_in mark) segment
 
@@ -50,7 +68,9 @@ IsKept f None before names row known count = Unit {0}
 IsKept f (Some mark) before names row known count = IsKeptOf f mark before names row known count
 
 -- a vector that is being closed: the list that it was opened from, the members of the new one so far, the
--- greatest length, how many there will be, the layout of its segments, and the mark that they had
+-- greatest length, how many there will be, the layout of its segments, and the mark that they had; the first place
+-- whose segment was laid since the opening, the tie whose codes those of the cells are, and the hand that has all shares;
+-- the first segment that is not closed yet, and how many are to be closed
 pub record ClosingView (T : Type 0) : Type 0 where
   pub opened : List (Option T)
   pub members : List (Option T)
@@ -58,19 +78,30 @@ pub record ClosingView (T : Type 0) : Type 0 where
   pub size : ℕ
   pub layout : ℕ
   pub mark : List ℕ
+  pub laid : ℕ
+  pub cells : Tie
+  pub hand : HandView
+  pub next : ℕ
+  pub count : ℕ
 
 abbrev pub closing_coded : {T : Type 0} → Coded T → Coded (ClosingView T)
 closing_coded {T} c =
     coded_via (coded× (coded_list (coded_option c))
-    (coded× (coded_list (coded_option c)) (coded× coded_ℕ (coded× coded_ℕ (coded× coded_ℕ (coded_list coded_ℕ))))))
-    (λ (v : ClosingView T). (v.opened, (v.members, (v.limit, (v.size, (v.layout, v.mark))))))
+    (coded× (coded_list (coded_option c)) (coded× coded_ℕ (coded× coded_ℕ (coded× coded_ℕ (coded× (coded_list coded_ℕ)
+    (coded× coded_ℕ (coded× tie_coded (coded× hand_coded (coded× coded_ℕ coded_ℕ))))))))))
+    (λ (v : ClosingView T). (v.opened, (v.members, (v.limit, (v.size, (v.layout, (v.mark, (v.laid, (v.cells, (v.hand, (v.next, v.count)))))))))))
     (λ x y e i. record {
       opened = (e i).0;
       members = (e i).1.0;
       limit = (e i).1.1.0;
       size = (e i).1.1.1.0;
       layout = (e i).1.1.1.1.0;
-      mark = (e i).1.1.1.1.1;
+      mark = (e i).1.1.1.1.1.0;
+      laid = (e i).1.1.1.1.1.1.0;
+      cells = (e i).1.1.1.1.1.1.1.0;
+      hand = (e i).1.1.1.1.1.1.1.1.0;
+      next = (e i).1.1.1.1.1.1.1.1.1.0;
+      count = (e i).1.1.1.1.1.1.1.1.1.1;
     })
 
 -- if a value was known, it is known still
@@ -82,6 +113,8 @@ abbrev pub KeepsKnownFrom : {T : Type 0} → List (MemberView T) → ℕ → Lis
 KeepsKnownFrom {T} opened place settled =
     (i : ℕ) (k m : MemberView T) → slice_get opened (place + i) ≡ Some k → slice_get settled i ≡ Some m
     → KeepsKnown k.value m.value
+
+-- ---- Settled cells
 
 -- n cells of a block, from an offset on, are settled; they are the places from `place` on. The row has what is
 -- known of them from now on, in order. A value that was known stays, and a cell without one is broken for the
@@ -97,6 +130,8 @@ pub record AreSettled {T : Type 0} (old new : BlockView) (offset : ℕ) (opened 
       → m.name ≡ (cell_at old (offset + i)).value_name
   pub values : KeepsKnownFrom opened place settled
   pub broken : AreBrokenIn epoch settled
+  pub stages : (i : ℕ) (m : MemberView T) → slice_get settled i ≡ Some m
+      → HasValueByStage (cell_at old (offset + i)) m.value
   pub before : (q : ℕ) → q < offset → cell_at new q ≡ cell_at old q
   pub after : (q : ℕ) → offset + n ≤ q → cell_at new q ≡ cell_at old q
 
@@ -117,3 +152,88 @@ pub record IsClosing {T : Type 0} (f : ℕ) (mark : List ℕ) (before : KeyRow) 
   pub within : len ≤ size
   pub most : size ≤ limit
   pub enough : size ≤ segment_start f count
+
+-- ---- The list of the history
+
+-- the member at a place is what the history's list has there: a value if it is filled, and otherwise it is broken
+abbrev pub IsMemberOf : {T : Type 0} → Option Cell → Option (Option T) → Type 0
+IsMemberOf None member = ⊥
+IsMemberOf {T} (Some (cells.Filled value)) member = (x : T) × (member ≡ Some (Some x))
+IsMemberOf (Some (cells.Pending actor)) member = member ≡ Some None
+IsMemberOf (Some cells.Broken) member = member ≡ Some None
+
+-- the history of a word leads to a list, and these members are those of its first places, at each place whose segment was
+-- laid since the vector was opened
+pub record IsListSoFar {T : Type 0} (word : WordView) (laid : ℕ) (log : Log) (members : List (Option T)) : Type 0 where
+  pub list : CellList
+  pub history : IsHistory (first_list word.limit word.base word.filled) log list
+  pub each : (place : ℕ) → laid ≤ place → place < length members → IsMemberOf (slice_get list.cells place) (slice_get members place)
+
+-- the same of all places
+pub record IsListOfHistory {T : Type 0} (vector : VectorView T) (log : Log) (members : List (Option T)) : Type 0 where
+  pub so_far : IsListSoFar vector.word vector.laid log members
+  pub all : length so_far.list.cells ≡ length members
+
+-- ---- Segments that are tied while a vector is being closed
+
+-- the cells of a segment that was laid since the opening have seats in a row, with the codes of the tie; others are not tied
+pub record IsTiedByCells (cells : Tie) (f laid segment : ℕ) (block : BlockView) : Type 0 where
+  pub tied : laid ≤ segment_start f segment → mould_of block.cells ≡ row_mould cells (block_len block)
+  pub plain : segment_start f segment < laid → ArePlain block.cells
+
+-- The parts of a vector that was taken apart, and the keys of its first `n` segments. A segment of the opened list has
+-- the key that was kept for it
+pub record IsTakenBy {T : Type 0} (word : WordView) (segments : TableView) (known : List (MemberView T)) (count : ℕ)
+    (cells : Tie) (row : KeyRow) (n : ℕ) : Type 0 where
+  pub keys : KeyRow
+  pub ended : Lft
+  pub tags : TagRow
+  pub shared : IsShared word segments keys known ended count cells tags
+  pub first : (s : ℕ) → s < n → IsSome (key_at keys s) → key_at row s ≡ key_at keys s
+
+-- the row has the keys of the segments of the opened list, and no others
+pub record AreOpenedKeys {T : Type 0} (vector : VectorView T) (row : KeyRow) : Type 0 where
+  pub named : AreKeys (mark_of vector.segments) row
+  pub there : (segment : ℕ) → segment < segment_count vector.segments.layout → segment_start vector.segments.layout segment < vector.laid
+      → IsSome (key_at row segment)
+  pub none : (segment : ℕ) → segment < most_segments → vector.laid ≤ segment_start vector.segments.layout segment
+      → key_at row segment ≡ None
+
+-- from a segment on, the hand knows where the places of the row's segments stand, which are tied as the vector has them
+abbrev pub AreKnownFrom : ℕ → TableView → ℕ → HandView → KeyRow → Type 0
+AreKnownFrom next segments laid hand row =
+    (segment : ℕ) (key : KeyView) → next ≤ segment → segment < most_segments → key_at row segment ≡ Some key
+    → IsBlockBy segments laid segment key.block × KnowsRow hand segment key.block
+
+-- A vector that is being closed keeps this, next to its list. The word is open, and the whole hand is there. The segments
+-- from `next` on are still as they were, and the hand knows where their places stand if they are tied; those before it are
+-- plain, and so are those of the opened list. The members so far are those of the history's list
+pub record IsStillOpen {T : Type 0} (word : WordView) (hand : HandView) (cells : Tie) (segments : TableView)
+    (laid next count size : ℕ) (row : KeyRow) (known : List (MemberView T)) : Type 0 where
+  pub of : hand.of ≡ word
+  pub mark : layout_in hand.of.mark ≡ segments.layout
+  pub whole : IsWholeHand hand
+  pub sized : size ≡ seen_size hand
+  pub tied : IsTiedTo word cells
+  pub open_still : (segment : ℕ) (key : KeyView) → next ≤ segment → segment < count → key_at row segment ≡ Some key
+      → IsTiedByCells cells segments.layout laid segment key.block × KnowsRow hand segment key.block
+  pub closed : ArePlainBelow segments next
+  pub at : length known < size → length known ≡ segment_start segments.layout next
+  pub past : length known ≤ segment_start segments.layout next
+  pub opened : (segment : ℕ) → segment < segment_count segments.layout → segment_start segments.layout segment < laid
+      → IsPlainAt segments segment
+  pub list : IsListSoFar word laid hand.log (values_in known)
+
+-- each cell of a segment that was laid since the opening is fixed at its stage, and has its names except for the tie
+pub record AreFixed (f laid segment : ℕ) (old new : BlockView) : Type 0 where
+  pub len : block_len new ≡ block_len old
+  pub same : segment_start f segment < laid → new ≡ old
+  pub cells : (q : ℕ) → untied (cell_at new q) ≡ untied (cell_at old q)
+  pub fixed : laid ≤ segment_start f segment → (q : ℕ) → q < block_len new
+      → (stage : Stage) × (stage_in (cell_at new q) ≡ Some stage)
+
+-- and the history of the hand shows the place as a cell at this stage is
+abbrev pub AreToldBy : HandView → ℕ → ℕ → BlockView → Type 0
+AreToldBy hand f segment block =
+    (q : ℕ) (stage : Stage) → q < block_len block → stage_in (cell_at block q) ≡ Some stage
+    → ShowsAt hand (place_in f segment q) (cell_stage stage)

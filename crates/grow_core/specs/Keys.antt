@@ -1,5 +1,5 @@
 -- The keys that a hand carries: a row of one optional key for each segment.
-use Rattle.std.specs.Prelude.{◌≡◌, ℕ, List, [], ◌∷◌, Option, Some, None, IsSome, ◌<◌, ◌≤◌, slice_index, slice_index_or, slice_set}
+use Rattle.std.specs.Prelude.{◌≡◌, ◌⊎◌, ℕ, List, [], ◌∷◌, Option, Some, None, IsSome, ◌<◌, ◌≤◌, slice_index, slice_index_or, slice_set}
 use Rattle.seg_core.specs.Segment.{HasPlace, Touches, segment_count, most_segments}
 use Rattle.claim_core.specs.declared.run.Run.{Run}
 use Rattle.claim_core.specs.Hand.{HandView, OwnsPlace, IsPlaceOf}
@@ -47,6 +47,16 @@ HasBlock row segment block = (key : KeyView) × (key_at row segment ≡ Some key
 abbrev pub IsBlockPut : TableView → ℕ → BlockView → KeyRow → KeyRow → Type 0
 IsBlockPut table segment block old new =
     (key : KeyView) × IsKeyOf table segment block key × (new ≡ slice_set old segment (Some key))
+
+-- each key of the new row is one of either row
+abbrev pub AreOfEither : KeyRow → KeyRow → KeyRow → Type 0
+AreOfEither a b new =
+    (segment : ℕ) (key : KeyView) → segment < most_segments → key_at new segment ≡ Some key
+    → (key_at a segment ≡ Some key) ⊎ (key_at b segment ≡ Some key)
+
+-- the row has the keys that it had, except for one segment, which has this one
+abbrev pub PutsKey : KeyRow → KeyRow → ℕ → KeyView → Type 0
+PutsKey old new segment key = new ≡ slice_set old segment (Some key)
 
 -- no key is lost
 abbrev pub KeepsKeys : KeyRow → KeyRow → Type 0

@@ -12,8 +12,10 @@ pub mod Growth
 pub mod Making
 pub mod AtLeast
 pub mod Logs
-pub mod Segment
 pub mod Ties
+pub mod Steps
+pub mod Shown
+pub mod Segment
 pub mod Stretch
 pub mod Filled
 pub mod Begun

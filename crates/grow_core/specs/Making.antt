@@ -86,3 +86,23 @@ StopsIn vector run refusal = ⊥
 abbrev pub IsTakenFrom : {T V E : Type 0} → ℕ → GrowError T V E → Type 0
 IsTakenFrom from (Taken place found) = from ≤ place
 IsTakenFrom from refusal = Unit {0}
+
+-- a place below this one was taken, and nothing else went wrong
+abbrev pub IsTakenBelow : {T V E : Type 0} → ℕ → GrowError T V E → Type 0
+IsTakenBelow end (Taken place found) = place < end
+IsTakenBelow end refusal = ⊥
+
+-- if a place was taken, it is below this one
+abbrev pub TakesBelow : {T V E : Type 0} → ℕ → GrowError T V E → Type 0
+TakesBelow end (Taken place found) = place < end
+TakesBelow end refusal = Unit {0}
+
+-- a construction was refused, and then this holds
+abbrev pub OnRefused : {T V E : Type 0} → GrowError T V E → Type 0 → Type 0
+OnRefused (Refused run made cause) then_holds = then_holds
+OnRefused refusal then_holds = Unit {0}
+
+-- if a construction was refused, that was after this number of values
+abbrev pub IsRefusedAfter : {T V E : Type 0} → ℕ → GrowError T V E → Type 0
+IsRefusedAfter n (Refused run made cause) = made.run.n ≡ n
+IsRefusedAfter n refusal = Unit {0}

@@ -27,6 +27,11 @@ abbrev pub IsSeen : {T : Type 0} → MendError T → Type 0
 IsSeen (OutOfRange size) = ⊥
 IsSeen refusal = Unit {0}
 
+-- the place is filled
+abbrev pub SaysFilled : {T : Type 0} → MendError T → Type 0
+SaysFilled (Filled placed) = Unit {0}
+SaysFilled other = ⊥
+
 -- the place is filled, with this value
 abbrev pub TellsValue : {T : Type 0} → T → MendError T → Type 0
 TellsValue x (Filled placed) = placed.value ≡ x

@@ -1,7 +1,11 @@
-// Places of a segment that a growth begins together, and then fills one by one, as their values are made.
+// Places of a segment of the opened list that a growth begins together, and then fills one by one, as their values are
+// made.
 ghost use Rattle.std.specs.Prelude.{◌≡◌, ◌+◌, ◌-◌, ◌<◌, ◌≤◌, Some, None, IfOk, IfErr};
-ghost use Rattle.grow_core.specs.Vector.{IsPlacedOf};
-ghost use Rattle.grow_core.specs.Segment.{IsSegmentOf};
+ghost use Rattle.claim_core.specs.Hand.{OwnsPlace};
+ghost use Rattle.claim_core.specs.History.{fill_event};
+ghost use Rattle.grow_core.specs.Vector.{IsHandOf, IsPlacedOf};
+ghost use Rattle.grow_core.specs.Segment.{IsSegmentOf, KnowsSegment};
+ghost use Rattle.grow_core.specs.Steps.{AddsAt, AreFresh, WorksIn};
 ghost use Rattle.grow_core.specs.Growth.{IsFoundAt};
 ghost use Rattle.grow_core.specs.Begun.{AreBegun, AreUnwritten, begun_count};
 
@@ -9,6 +13,7 @@ use crate::fill::Segment;
 use crate::token::{Found, Placed};
 use crate::vector::Shared;
 use cell_core::block::RunPen;
+use claim_core::Hand as ClaimHand;
 
 impl<T: Drop> Shared<T> {
     // Begins places of the segment from this one on, `left` of them at most: those whose states are in one word, all of
@@ -24,8 +29,12 @@ impl<T: Drop> Shared<T> {
         requires from { segment.now.from ≤ place }
         requires before { place < segment.now.end }
         requires some { 0 < left }
-        ensures { AreBegun segment.now place left result }
+        ensures { AreBegun self.now.laid segment.now place left result }
     {
+        // The begin of a tied place is a load, so nothing is gained by beginning some of them together.
+        if self.is_laid(segment.key.segment()) {
+            return None;
+        }
         let offset = place - segment.from;
         let n = segment.block.longest_run(offset).min(left);
         segment.block.begin_run_plain(offset, n)
@@ -43,12 +52,16 @@ impl<T: Drop> Shared<T> {
     ) -> (Placed<T>, Option<RunPen<'a, T>>)
         requires segment { IsSegmentOf self.now segment.now }
         requires from { segment.now.from ≤ place }
-        requires begun { AreBegun segment.now place left (Some run) }
+        requires begun { AreBegun self.now.laid segment.now place left (Some run) }
         ensures token { IsPlacedOf self.now result.0 }
         ensures here { result.0.place ≡ place }
         ensures value { result.0.value ≡ value }
-        ensures begun { AreBegun segment.now (place + 1) (left - 1) result.1 }
+        ensures begun { AreBegun self.now.laid segment.now (place + 1) (left - 1) result.1 }
+        // Only places of the opened list's segments are begun together.
+        ensures opened { place < self.now.laid }
     {
+        // For the proof: such a segment ends where the opened list's segments do, or before.
+        let _table = &self.table;
         // Only the contract speaks of the places.
         let _ = (place, left);
         let key = segment.key.again();
@@ -62,22 +75,30 @@ impl<T: Drop> Shared<T> {
     #[inline(always)]
     pub(crate) fn fill_begun<'a>(
         &self,
+        claims: &mut ClaimHand,
         segment: &Segment<'a, T>,
         place: u64,
         left: u64,
         begun: Option<RunPen<'a, T>>,
         value: T,
     ) -> (Result<Placed<T>, Found<T>>, Option<RunPen<'a, T>>)
+        requires ours { IsHandOf self.now claims.old }
+        requires owned { OwnsPlace claims.old place }
+        requires fresh { AreFresh claims.old place 1 }
         requires segment { IsSegmentOf self.now segment.now }
+        requires row { KnowsSegment claims.old segment.now }
         requires from { segment.now.from ≤ place }
         requires before { place < segment.now.end }
         requires some { 0 < left }
-        requires begun { AreBegun segment.now place left begun }
+        requires begun { AreBegun self.now.laid segment.now place left begun }
         ensures token { IfOk result.0 (IsPlacedOf self.now) }
         ensures here { IfOk result.0 (λ placed. placed.place ≡ place) }
         ensures value { IfOk result.0 (λ placed. placed.value ≡ value) }
         ensures found { IfErr result.0 (IsFoundAt self.now place) }
-        ensures begun { AreBegun segment.now (place + 1) (left - 1) result.1 }
+        ensures opened { IfErr result.0 (λ _. place < self.now.laid) }
+        ensures works { WorksIn claims.old claims.new place 1 }
+        ensures adds { AddsAt self.now claims.old claims.new place (λ index. fill_event index place) }
+        ensures begun { AreBegun self.now.laid segment.now (place + 1) (left - 1) result.1 }
     {
         let begun = match begun {
             Some(run) => Some(run),
@@ -88,7 +109,7 @@ impl<T: Drop> Shared<T> {
                 let (placed, others) = self.fill_by(segment, place, left, run, value);
                 (Ok(placed), others)
             }
-            None => (self.fill(segment, place, value), None),
+            None => (self.fill(claims, segment, place, value), None),
         }
     }
 }

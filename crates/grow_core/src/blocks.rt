@@ -1,5 +1,5 @@
 // The blocks and cells of an owner's places.
-ghost use Rattle.std.specs.Prelude.{◌≡◌, ◌<◌, ◌≤◌, Some, None, IfSome, IsSome};
+ghost use Rattle.std.specs.Prelude.{◌≡◌, ◌<◌, ◌≤◌, Some, None, IfSome, IsSome, slice_set};
 ghost use Rattle.seg_core.specs.Segment.{segment_start, segment_end, segment_count, segment_of, most_segments};
 ghost use Rattle.cell_core.specs.Block.{block_len, IsMemberAt, KeepsOtherCells};
 ghost use Rattle.cell_core.specs.Slot.{ArePlain};
@@ -29,6 +29,7 @@ pub(crate) fn find_cell<T>(
     ensures some { IsSome result }
     ensures small { IfSome result (λ (segment, _, _). segment < most_segments) }
     ensures segment { IfSome result (λ (segment, _, _). segment < segment_count table.now.layout) }
+    ensures first { IfSome result (λ (segment, _, _). segment < count) }
     ensures number { IfSome result (λ (segment, _, _).
         segment ≡ segment_of table.now.layout place) }
     ensures place { IfSome result (λ (segment, offset, _).
@@ -59,6 +60,7 @@ pub(crate) fn cell_of<T>(
     requires inside { place < segment_start table.now.layout count }
     ensures small { result.0 < most_segments }
     ensures segment { result.0 < segment_count table.now.layout }
+    ensures first { result.0 < count }
     ensures number { result.0 ≡ segment_of table.now.layout place }
     ensures place { place_in table.now.layout result.0 result.1 ≡ place }
     ensures within { place < segment_end table.now.layout result.0 }
@@ -83,6 +85,7 @@ pub(crate) fn take_block<T: Drop>(
     requires named { AreKeys (mark_of table.old) keys.now }
     ensures small { result.0 < most_segments }
     ensures segment { result.0 < segment_count table.old.layout }
+    ensures first { result.0 < count }
     ensures place { place_in table.old.layout result.0 result.1 ≡ place }
     ensures within { place < segment_end table.old.layout result.0 }
     ensures block { HasBlock keys.now result.0 result.2.value }
@@ -117,6 +120,20 @@ pub(crate) fn put_block<T: Drop>(
     ensures plain { IsPlainAt table.new segment }
 {
     keys.set(segment, Some(table.attach_plain(segment, block)));
+}
+
+// The entry of a segment is not set and not tied any more, and the row loses its key. A block that it had is dropped.
+pub(crate) fn clear_entry<T: Drop>(table: &mut SegmentTable<T>, keys: &mut Keys, segment: u32)
+    requires within { segment < segment_count table.old.layout }
+    requires small { segment < most_segments }
+    ensures keys { keys.new ≡ slice_set keys.old segment None }
+    ensures layout { table.new.layout ≡ table.old.layout }
+    ensures others { KeepsOtherEntries table.old table.new segment }
+    ensures bonds { KeepsOtherBonds table.old table.new segment }
+    ensures plain { IsPlainAt table.new segment }
+{
+    table.give_up(segment);
+    keys.set(segment, None);
 }
 
 // Writes a value into the cell, or breaks it. It returns what is then known of the cell, and the value that

@@ -1,15 +1,15 @@
 // How every growth claims its run, once it has its memory.
 ghost use Rattle.std.specs.Prelude.{◌≡◌, ◌+◌, ◌<◌, ◌≤◌, IfOk, IfErr, IsErrAnd};
 ghost use Rattle.claim_core.specs.Hand.{AddsRun, LogsRun, seen_size};
+ghost use Rattle.grow_core.specs.Steps.{IsNewRun};
 ghost use Rattle.grow_core.specs.Vector.{IsHandOf, limit_of};
 ghost use Rattle.grow_core.specs.Keys.{OwnsPlacesOf};
 ghost use Rattle.grow_core.specs.Growth.{Refuses, HasNoRoom, SaysFull, IsNotMoved, ClaimsNothing};
 ghost use Rattle.grow_core.specs.Making.{IsClaimed};
-ghost use Rattle.grow_core.specs.Logs.{LogsGrowth, LogsRefusal};
+ghost use Rattle.grow_core.specs.Logs.{LogsClaimed, LogsRefusal};
 
 use crate::errors::GrowError;
 use crate::hand::{Hand, claiming_laws};
-use crate::keys::install;
 use crate::vector::Shared;
 use claim_core::{Moved, Run, laws};
 use std::marker::Brand;
@@ -30,8 +30,10 @@ impl<T: Drop> Shared<T> {
         ensures refused { IfErr result (Refuses self.now n value hand.old hand.new) }
         ensures unclaimed { IfErr result ClaimsNothing }
         ensures full { HasNoRoom self.now n hand.old → IsErrAnd result SaysFull }
-        ensures logs { IfOk result (λ (run, _). LogsGrowth hand.old hand.new run) }
-        ensures logs_refusal { IfErr result (LogsRefusal n hand.old hand.new) }
+        // The run is the last that the hand has seen, and no place of it is known begun.
+        ensures new_run { IfOk result (λ (run, _). IsNewRun hand.new run) }
+        ensures logs { IfOk result (λ (run, _). LogsClaimed hand.old hand.new run) }
+        ensures logs_refusal { IfErr result (LogsRefusal self.now n hand.old hand.new) }
     {
         // For the proof: the hand owns the run that it gains.
         laws::added_runs_are_owned();
@@ -64,8 +66,10 @@ impl<T: Drop> Shared<T> {
         ensures refused { IfErr result (Refuses self.now n value hand.old hand.new) }
         ensures unclaimed { IfErr result ClaimsNothing }
         ensures full { HasNoRoom self.now n hand.old → IsErrAnd result SaysFull }
-        ensures logs { IfOk result (λ (run, _). LogsGrowth hand.old hand.new run) }
-        ensures logs_refusal { IfErr result (LogsRefusal n hand.old hand.new) }
+        // The run is the last that the hand has seen, and no place of it is known begun.
+        ensures new_run { IfOk result (λ (run, _). IsNewRun hand.new run) }
+        ensures logs { IfOk result (λ (run, _). LogsClaimed hand.old hand.new run) }
+        ensures logs_refusal { IfErr result (LogsRefusal self.now n hand.old hand.new) }
         ensures not_moved { IfErr result IsNotMoved }
     {
         for _try in rt.forever() {
@@ -96,13 +100,16 @@ impl<T: Drop> Shared<T> {
         ensures value { IfOk result (λ on. on ≡ value) }
         ensures refused { IfErr result (Refuses self.now n value hand.old hand.new) }
         ensures unclaimed { IfErr result ClaimsNothing }
+        ensures new_run { IfOk result (λ _. IsNewRun hand.new record { from = from; n = n }) }
         ensures logs { IfOk result (λ _. LogsRun hand.old hand.new record { from = from; n = n }) }
-        ensures logs_refusal { IfErr result (LogsRefusal n hand.old hand.new) }
+        ensures logs_refusal { IfErr result (LogsRefusal self.now n hand.old hand.new) }
     {
         // For the proof: the hand keeps its places, and owns those of the run that it gains.
         self.laws();
         claiming_laws(&hand.claims);
-        let Ok(()) = install(&self.table, &mut hand.keys, from, n) else {
+        // And its keys are those of the vector's segments.
+        let _table = &self.table;
+        let Ok(()) = self.install(&mut hand.claims, &mut hand.keys, from, n) else {
             self.word.log_no_memory(&mut hand.claims);
             return Err(GrowError::NoMemory { back: value });
         };

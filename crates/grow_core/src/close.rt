@@ -1,12 +1,15 @@
 //! How a vector is closed: it becomes an owner's list.
-ghost use Rattle.std.specs.Prelude.{◌≡◌, ◌+◌, ◌<◌, ◌≤◌, ℕ, min, Some, None, IfSome, IsSome, IsTrue, IsFalse, length};
-ghost use Rattle.claim_core.specs.Hand.{IsWholeHand, seen_size};
-ghost use Rattle.seg_core.specs.Segment.{IsLayout, segment_count, segment_end, most_segments};
+ghost use Rattle.std.specs.Prelude.{◌≡◌, ◌+◌, ◌<◌, ◌≤◌, ℕ, min, Some, None, IfNone, IfSome, IsSome, IsTrue, IsFalse, length};
+ghost use Rattle.claim_core.specs.Gain.{IsTiedTo};
+ghost use Rattle.claim_core.specs.Hand.{IsWholeHand, OwnsPlace, seen_size};
+ghost use Rattle.seg_core.specs.Segment.{HasPlace, IsLayout, segment_count, segment_end, segment_start, most_segments};
 ghost use Rattle.table_core.specs.Table.{IsBlockOf};
-ghost use Rattle.grow_core.specs.Keys.{IsKeyAt, AreKeys, key_at, mark_of};
+ghost use Rattle.grow_core.specs.Keys.{IsKeyAt, AreKeys, key_at, layout_in, mark_of};
 ghost use Rattle.grow_core.specs.Parts.{AreLong, HasFirstKeys};
-ghost use Rattle.grow_core.specs.Vector.{IsHandOf, layout_of, limit_of};
-ghost use Rattle.grow_core.specs.Closing.{IsClosedFrom, KeepsValues};
+ghost use Rattle.grow_core.specs.Steps.{FindsMore};
+ghost use Rattle.grow_core.specs.Ties.{IsBlockBy, KnowsRow};
+ghost use Rattle.grow_core.specs.Vector.{IsHandOf, IsLaid, layout_of, limit_of};
+ghost use Rattle.grow_core.specs.Closing.{AreFixed, AreKnownFrom, AreOpenedKeys, AreToldBy, IsClosedFrom, IsListOfHistory, IsListSoFar, IsTiedByCells, KeepsValues};
 
 use crate::blocks::{put_block, take_block};
 use crate::hand::Hand;
@@ -14,64 +17,126 @@ use crate::keys::{Keys, key_of, keys_again, no_keys};
 use crate::open::Segments;
 use crate::parts::Parts;
 use crate::settle_cells::{Opened, settle_cells};
-use crate::ties::SegmentTable;
+use crate::ties::{CellBlock, SegmentTable};
 use crate::vector::Shared;
+use book_core::laws::runs_tile;
 use cell_core::block::{Epoch, Row};
-use claim_core::Mark;
+use claim_core::{CellTag, Hand as ClaimHand, Mark, Word};
 use seg_core::Layout;
 use std::alloc::Global;
 use std::marker::Model;
 use table_core::Key;
 
-// The key of a segment: that of the opened list, or the hand's, or otherwise one found by a look at the
-// table.
-fn find_key<T>(table: &SegmentTable<T>, opened: &Keys, own: &Keys, segment: u32) -> Option<Key>
-    requires layout { IsLayout table.now.layout }
-    requires within { segment < segment_count table.now.layout }
-    requires opened { AreKeys (mark_of table.now) opened.now }
-    requires own { AreKeys (mark_of table.now) own.now }
-    ensures key { IfSome result (IsKeyAt (mark_of table.now) segment) }
-    ensures long { IfSome result (λ key. IsBlockOf table.now.layout segment key.block) }
-    ensures first { IsSome (key_at opened.now segment) → result ≡ key_at opened.now segment }
-    ensures there { IsSome (key_at own.now segment) → IsSome result }
-{
-    let known = match key_of(opened, segment) {
-        Some(key) => Some(key),
-        None => key_of(own, segment),
-    };
-    if let Some(key) = known {
-        table.known(&key);
-        return Some(key);
+impl<T> Shared<T> {
+    // The key of a segment if the hand has it.
+    fn own_key(&self, hand: &Hand<T>, segment: u32) -> Option<Key>
+        requires ours { IsHandOf self.now hand.now }
+        requires within { segment < segment_count (layout_of self.now) }
+        ensures key { IfSome result (IsKeyAt (mark_of self.now.segments) segment) }
+        ensures long { IfSome result (λ key. IsBlockOf (layout_of self.now) segment key.block) }
+        ensures by { IfSome result (λ key. IsBlockBy self.now.segments self.now.laid segment key.block) }
+        ensures row { IfSome result (λ key. KnowsRow hand.now segment key.block) }
+        ensures there { (place : ℕ) → OwnsPlace hand.now place
+            → HasPlace (layout_of self.now) segment place → IsSome result }
+    {
+        // For the proof: the segments of the layout are few, and the hand has the mark.
+        let _table = &self.table;
+        let keys = hand.keys();
+        match key_of(keys, segment) {
+            Some(key) => {
+                self.known_block(&key);
+                Some(key)
+            }
+            None => None,
+        }
     }
-    let (_, key) = table.scout_key(segment)?;
-    Some(key)
-}
 
-// The keys of the first segments, and how many there are.
-fn first_keys<T>(table: &SegmentTable<T>, opened: &Keys, own: &Keys) -> (Keys, u32)
-    requires opened { AreKeys (mark_of table.now) opened.now }
-    requires own { AreKeys (mark_of table.now) own.now }
-    ensures named { AreKeys (mark_of table.now) result.0 }
-    ensures long { AreLong table.now.layout result.0 }
-    ensures there { HasFirstKeys result.0 result.1 }
-    ensures few { result.1 ≤ segment_count table.now.layout }
-    ensures first { (s : ℕ) → s < result.1 → IsSome (key_at opened.now s)
-        → key_at result.0 s ≡ key_at opened.now s }
-    ensures none { (s : ℕ) → s < most_segments → result.1 ≤ s → key_at result.0 s ≡ None }
-    ensures end { result.1 < segment_count table.now.layout
-        → (key_at opened.now result.1 ≡ None) × (key_at own.now result.1 ≡ None) }
-{
-    let layout = table.layout();
-    // For the proof: its f is that of a layout.
-    let _f = layout.f();
-    let mut keys = no_keys();
-    for segment in 0..layout.segments() {
-        let Some(key) = find_key(table, opened, own, segment) else {
-            return (keys, segment)
-        };
-        keys.set(segment, Some(key));
+    // The key of a segment if the opened list has it, or the hand.
+    #[tactic(auto, using(crate::proofs::LastKeys::laid_if_none, crate::proofs::LastKeys::if_none))]
+    fn known_key(&self, opened: &Keys, hand: &Hand<T>, segment: u32) -> Option<Key>
+        requires ours { IsHandOf self.now hand.now }
+        requires within { segment < segment_count (layout_of self.now) }
+        requires opened { AreOpenedKeys self.now opened.now }
+        ensures key { IfSome result (IsKeyAt (mark_of self.now.segments) segment) }
+        ensures long { IfSome result (λ key. IsBlockOf (layout_of self.now) segment key.block) }
+        ensures by { IfSome result (λ key. IsBlockBy self.now.segments self.now.laid segment key.block) }
+        ensures row { IfSome result (λ key. KnowsRow hand.now segment key.block) }
+        ensures first { IsSome (key_at opened.now segment) → result ≡ key_at opened.now segment }
+        ensures there { (place : ℕ) → OwnsPlace hand.now place
+            → HasPlace (layout_of self.now) segment place → IsSome result }
+        ensures laid { IfNone result (IsLaid self.now (segment_start (layout_of self.now) segment)) }
+    {
+        // For the proof: the segments of the layout are few.
+        let _table = &self.table;
+        match key_of(opened, segment) {
+            Some(key) => {
+                self.known_block(&key);
+                Some(key)
+            }
+            None => self.own_key(hand, segment),
+        }
     }
-    (keys, layout.segments())
+
+    // The same, or otherwise one found by a look at the table: the hand then knows where the segment's cells are. A
+    // whole hand learns of no event, since nobody adds one.
+    #[tactic(auto, using(crate::proofs::Works::finds_none, crate::proofs::LastKeys::by_tied, crate::proofs::KeyRows::none_is_none))]
+    fn last_key(&self, opened: &Keys, hand: &mut Hand<T>, segment: u32) -> Option<Key>
+        requires ours { IsHandOf self.now hand.old }
+        requires whole { IsWholeHand hand.old }
+        requires within { segment < segment_count (layout_of self.now) }
+        requires opened { AreOpenedKeys self.now opened.now }
+        ensures key { IfSome result (IsKeyAt (mark_of self.now.segments) segment) }
+        ensures long { IfSome result (λ key. IsBlockOf (layout_of self.now) segment key.block) }
+        ensures by { IfSome result (λ key. IsBlockBy self.now.segments self.now.laid segment key.block) }
+        ensures row { IfSome result (λ key. KnowsRow hand.new segment key.block) }
+        ensures finds { FindsMore hand.old hand.new }
+        ensures log { hand.new.log ≡ hand.old.log }
+        ensures first { IsSome (key_at opened.now segment) → result ≡ key_at opened.now segment }
+        // The segment of a place that was claimed is there.
+        ensures there { (place : ℕ) → OwnsPlace hand.old place
+            → HasPlace (layout_of self.now) segment place → IsSome result }
+    {
+        match self.known_key(opened, hand, segment) {
+            Some(key) => Some(key),
+            None => self.scout_row(&mut hand.claims, segment),
+        }
+    }
+
+    // The keys of the first segments, and how many there are.
+    #[tactic(auto, using(crate::proofs::LastKeys::claimed_below, crate::proofs::LastKeys::all_within, crate::proofs::Places::starts_le))]
+    pub(crate) fn first_keys(&self, opened: &Keys, hand: &mut Hand<T>) -> (Keys, u32)
+        requires ours { IsHandOf self.now hand.old }
+        requires whole { IsWholeHand hand.old }
+        requires opened { AreOpenedKeys self.now opened.now }
+        ensures named { AreKeys (mark_of self.now.segments) result.0 }
+        ensures long { AreLong (layout_of self.now) result.0 }
+        ensures there { HasFirstKeys result.0 result.1 }
+        ensures few { result.1 ≤ segment_count (layout_of self.now) }
+        ensures first { (s : ℕ) → s < result.1 → IsSome (key_at opened.now s)
+            → key_at result.0 s ≡ key_at opened.now s }
+        ensures none { (s : ℕ) → s < most_segments → result.1 ≤ s → key_at result.0 s ≡ None }
+        // The places of the list and those that were claimed since are in these segments.
+        ensures opened { self.now.laid ≤ segment_start (layout_of self.now) result.1 }
+        ensures all { seen_size hand.old ≤ segment_start (layout_of self.now) result.1 }
+        ensures rows { AreKnownFrom 0 self.now.segments self.now.laid hand.new result.0 }
+        ensures finds { FindsMore hand.old hand.new }
+        ensures log { hand.new.log ≡ hand.old.log }
+    {
+        let layout = self.table.layout();
+        // For the proof: its f is that of a layout; a whole hand owns every place; and the list lies in its segments.
+        let _f = layout.f();
+        hand.whole_laws();
+        hand.laws();
+        self.laws();
+        let mut keys = no_keys();
+        for segment in 0..layout.segments() {
+            let Some(key) = self.last_key(opened, hand, segment) else {
+                return (keys, segment)
+            };
+            keys.set(segment, Some(key));
+        }
+        (keys, layout.segments())
+    }
 }
 
 // One past the last place that the segment has, of a vector of this size.
@@ -83,9 +148,57 @@ fn end_in(layout: Layout, segment: u32, size: u64) -> u64
     size.min(layout.first(segment) + layout.len(segment))
 }
 
-// A vector whose first `len` places are members of a list already.
+// Learns of each cell of a segment how far it is, which is as the history's list says. It is no step. The cells of a
+// segment of the opened list stay as they are.
+#[tactic(auto, using(crate::proofs::Fixing::all_fixed, crate::proofs::Fixing::all_told, crate::proofs::Fixing::before_laid, crate::proofs::Fixing::none_to_fix, crate::proofs::Fixing::none_to_tell))]
+fn fix_cells<T>(
+    word: &Word<Global>,
+    claims: &mut ClaimHand,
+    cells: &CellTag,
+    layout: Layout,
+    laid: u32,
+    segment: u32,
+    block: &mut CellBlock<T>,
+)
+    requires ours { claims.old.of ≡ word.now }
+    requires whole { IsWholeHand claims.old }
+    requires tied { IsTiedTo word.now cells.now.tie }
+    requires layout { IsLayout layout }
+    requires mark { layout_in claims.old.of.mark ≡ layout }
+    requires within { segment < segment_count layout }
+    requires long { IsBlockOf layout segment block.old }
+    requires by { IsTiedByCells cells.now.tie layout (segment_start layout laid) segment block.old }
+    requires row { KnowsRow claims.old segment block.old }
+    ensures fixed { AreFixed layout (segment_start layout laid) segment block.old block.new }
+    ensures told { AreToldBy claims.old layout segment block.new }
+    ensures kept { claims.new ≡ claims.old }
+{
+    // For the proof: reading the length shows the type's invariant.
+    let n = block.len();
+    if segment < laid {
+        return;
+    }
+    let from = layout.first(segment);
+    // For the proof: the cells have seats with numbers in a row.
+    block.ties_laws();
+    let tag = cells.numbered(&*block);
+    for i in 0..n {
+        let offer = claims.offer_read(word, &tag.further(i), from + i);
+        let offer = block.fix_for(i, offer);
+        claims.take_back_read(offer);
+    }
+}
+
+// A vector whose first `len` places are members of a list already. Its word is open, and the hand that has all shares
+// is there, until no cell is tied any more.
 #[derive(Drop)]
 struct Closing<T> {
+    word: Word<Global>,
+    claims: ClaimHand,
+    cells: CellTag,
+    // The first segment that was laid since the vector was opened, and the first that is not closed yet.
+    laid: u32,
+    next: u32,
     table: SegmentTable<T>,
     before: Keys,
     keys: Keys,
@@ -103,9 +216,9 @@ struct Closing<T> {
 
 impl<T> Model for Closing<T> {
     ghost use Rattle.std.specs.Prelude.{◌≡◌};
+    ghost use Rattle.seg_core.specs.Segment.{segment_start};
     ghost use Rattle.grow_core.specs.Parts.{broken_count, values_in};
-    ghost use Rattle.grow_core.specs.Closing.{ClosingView, closing_coded, IsClosing};
-    ghost use Rattle.grow_core.specs.Ties.{ArePlainSegments};
+    ghost use Rattle.grow_core.specs.Closing.{ClosingView, closing_coded, IsClosing, IsStillOpen};
 
     ghost Value = { ClosingView T };
 
@@ -118,11 +231,18 @@ impl<T> Model for Closing<T> {
       size = c.size;
       layout = c.table.layout;
       mark = c.mark.numbers;
+      laid = segment_start c.table.layout c.laid;
+      cells = c.cells.tie;
+      hand = c.claims;
+      next = c.next;
+      count = c.count;
     } };
 
     ghost invariant = { λ c. IsClosing c.table.layout c.mark.numbers c.before c.table.names c.keys
         c.opened c.row c.epoch c.len c.limit c.count c.size
-        × (c.broken ≡ broken_count (values_in c.row)) × ArePlainSegments c.table };
+        × (c.broken ≡ broken_count (values_in c.row))
+        × IsStillOpen c.word c.claims c.cells.tie c.table
+        (segment_start c.table.layout c.laid) c.next c.count c.size c.keys c.row };
 }
 
 impl<T: Drop> Closing<T> {
@@ -136,18 +256,27 @@ impl<T: Drop> Closing<T> {
         ensures size { result.size ≡ seen_size hand }
         ensures layout { result.layout ≡ layout_of vector }
         ensures mark { result.mark ≡ mark_of vector.segments }
+        ensures laid { result.laid ≡ vector.laid }
+        ensures of { result.hand.of ≡ vector.word }
+        ensures log { result.hand.log ≡ hand.log }
     {
         // For the proof: the vector's base is within its limit, and the hand's places are within its size.
         vector.laws();
         hand.laws();
+        let mut hand = hand;
         let limit = vector.limit();
+        let size = hand.seen();
         let alloc = vector.alloc;
-        let (word, table, keys, _, row, _) = vector.take_apart();
-        let base = word.base();
+        let (word, table, laid, row, cells, before, count) = vector.take_apart_by(&mut hand);
         let mark = Mark::of::<SegmentTable<T>, Segments>(&table);
-        let (before, count) = first_keys(&table, &keys, hand.whole_keys());
-        let size = word.close(hand.claims);
+        let Hand { claims, .. } = hand;
+        let base = word.base();
         Closing {
+            word,
+            claims,
+            cells,
+            laid,
+            next: 0,
             table,
             keys: keys_again(&before),
             before,
@@ -176,13 +305,27 @@ impl<T: Drop> Closing<T> {
     fn settle_segment(&mut self)
         requires { length self.old.members < self.old.size }
         ensures more { length self.old.members < length self.new.members }
-        ensures rest_kept { self.new ≡ record self.old { members = self.new.members } }
+        ensures rest_kept { self.new
+            ≡ record self.old { members = self.new.members; next = self.new.next } }
     {
+        // For the proof: the hand has seen all that was claimed, and owns it; and the list of a history has those
+        // places.
+        self.claims.whole_laws();
+        runs_tile();
         let (segment, offset, mut block) = take_block(
             &mut self.table,
             &self.keys,
             self.count,
             self.len,
+        );
+        fix_cells(
+            &self.word,
+            &mut self.claims,
+            &self.cells,
+            self.table.layout(),
+            self.laid,
+            segment,
+            &mut block,
         );
         let end = end_in(self.table.layout(), segment, self.size);
         let n = end - self.len;
@@ -195,20 +338,60 @@ impl<T: Drop> Closing<T> {
             &mut self.row,
             &self.epoch,
         );
+        block.untie_now(&self.row, self.len - offset);
         put_block(&mut self.table, &mut self.keys, segment, block);
         self.len = end;
+        self.next = segment + 1;
+    }
+
+    // Tests whether there are segments past the size that are not closed yet.
+    fn has_more(&self) -> bool
+        ensures more { IsTrue result → self.now.next < self.now.count }
+        ensures done { IsFalse result → self.now.count ≤ self.now.next }
+    {
+        self.next < self.count
+    }
+
+    // The cells of the next segment, which lies past the size, are not tied any more. They are empty.
+    fn untie_segment(&mut self)
+        requires all { length self.old.members ≡ self.old.size }
+        requires more { self.old.next < self.old.count }
+        ensures { self.new ≡ record self.old { next = self.old.next + 1 } }
+    {
+        // For the proof: the hand has seen all that was claimed, and owns it.
+        self.claims.whole_laws();
+        let Some(key) = key_of(&self.keys, self.next) else {
+            unreachable!()
+        };
+        let mut block = self.table.detach(&key);
+        fix_cells(
+            &self.word,
+            &mut self.claims,
+            &self.cells,
+            self.table.layout(),
+            self.laid,
+            self.next,
+            &mut block,
+        );
+        block.untie_now(&Row::new(), 0);
+        put_block(&mut self.table, &mut self.keys, self.next, block);
+        self.next += 1;
     }
 
     // The list.
     fn into_parts(self) -> Parts<T>
-        requires { length self.members ≡ self.size }
+        requires all { length self.members ≡ self.size }
+        requires closed { self.count ≤ self.next }
         ensures length { length result.members ≡ self.size }
         ensures limit { result.limit ≡ self.limit }
         ensures layout { result.layout ≡ self.layout }
         ensures opened { KeepsValues self.opened result.members }
         ensures closed { result.closed ≡ Some self.mark }
+        ensures history { IsListSoFar self.hand.of self.laid self.hand.log result.members }
     {
         let Closing {
+            word,
+            claims,
             table,
             before,
             keys,
@@ -222,6 +405,7 @@ impl<T: Drop> Closing<T> {
             alloc,
             ..
         } = self;
+        let _size = word.close(claims);
         Parts {
             table,
             keys,
@@ -242,6 +426,9 @@ impl<T: Drop> Shared<T> {
     /// Closes the vector into the list of its values, as long as its size. A place that was claimed but never
     /// filled is broken. It moves no value and takes no memory; its time is linear in the size. The capacity
     /// is that of the installed segments.
+    ///
+    /// It is the list of the history that the hand has seen, which is the whole one.
+    #[tactic(auto, using(crate::proofs::Unties::list_of_history))]
     pub fn into_parts(self, hand: Hand<T>) -> Parts<T>
         requires ours { IsHandOf self hand }
         requires whole { IsWholeHand hand }
@@ -250,10 +437,17 @@ impl<T: Drop> Shared<T> {
         ensures layout { result.layout ≡ layout_of self }
         ensures opened { KeepsValues self.opened result.members }
         ensures closed { IsClosedFrom self result.closed }
+        ensures history { IsListOfHistory self hand.log result.members }
     {
+        // For the proof: the hand has seen all that was claimed, and the list of a history has those places.
+        hand.whole_laws();
+        runs_tile();
         let mut closing = Closing::of(self, hand);
         while closing.is_open() {
             closing.settle_segment();
+        }
+        while closing.has_more() {
+            closing.untie_segment();
         }
         closing.into_parts()
     }

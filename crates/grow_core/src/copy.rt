@@ -1,15 +1,16 @@
 //! Growths by copies: of the values of a slice, or of one value.
-ghost use Rattle.std.specs.Prelude.{◌≡◌, ◌+◌, ◌<◌, ◌≤◌, [], IfOk, IfErr, IsErrAnd, length, replicate, take};
+ghost use Rattle.std.specs.Prelude.{◌≡◌, ◌+◌, ◌-◌, ◌%◌, ◌<◌, ◌≤◌, [], IfOk, IfErr, IsErrAnd, length, replicate, take};
 ghost use Rattle.seg_core.specs.Segment.{most_places};
-ghost use Rattle.cell_core.specs.Run.{members_of};
-ghost use Rattle.grow_core.specs.Vector.{IsHandOf, limit_of};
+ghost use Rattle.cell_core.specs.Laid.{word_cells};
+ghost use Rattle.grow_core.specs.Vector.{IsHandOf, IsLaid, limit_of};
 ghost use Rattle.grow_core.specs.Grown.{IsGrownOf, values_of};
 ghost use Rattle.grow_core.specs.Keys.{OwnsPlacesOf};
-ghost use Rattle.grow_core.specs.Segment.{IsSegmentOf};
-ghost use Rattle.grow_core.specs.Stretch.{TakesFrom, values_from};
+ghost use Rattle.grow_core.specs.Segment.{IsSegmentOf, KnowsSegment};
+ghost use Rattle.grow_core.specs.Stretch.{IsStretchOf, TakesFrom, values_from};
 ghost use Rattle.grow_core.specs.Growth.{WonRun, Refuses, HasNoRoom, SaysFull, IsNotMoved, IsFoundAt};
 ghost use Rattle.grow_core.specs.Making.{StopsIn};
-ghost use Rattle.grow_core.specs.Logs.{LogsGrowth, LogsRefusal};
+ghost use Rattle.grow_core.specs.Logs.{LogsGrowth, LogsRefusal, AllFilled, fill_steps};
+ghost use Rattle.grow_core.specs.Steps.{AddsAlong, AddsOn, AreFresh, IsUntouched, StopsWith, WorksIn};
 
 use crate::errors::{GrowError, Never};
 use crate::fill::Segment;
@@ -19,8 +20,8 @@ use crate::source::{Copies, FromSlice, Source};
 use crate::stretch::Stretch;
 use crate::token::Found;
 use crate::vector::Shared;
-use cell_core::block::{Row, RunPen};
-use claim_core::Run;
+use cell_core::block::{Kind, RunPen};
+use claim_core::{Hand as ClaimHand, Run, laws};
 use std::sync::Wait;
 
 impl<T: Copy> Shared<T> {
@@ -38,9 +39,11 @@ impl<T: Copy> Shared<T> {
             (Refuses self.now (length values.now) tt hand.old hand.new) }
         // Room that is missing by what the hand has seen is reported before memory is asked for.
         ensures full { HasNoRoom self.now (length values.now) hand.old → IsErrAnd result SaysFull }
-        // The history gets the claim of the run, or the event whose reply the refusal is.
-        ensures logs { IfOk result (λ grown. LogsGrowth hand.old hand.new grown.run) }
-        ensures logs_refusal { IfErr result (LogsRefusal (length values.now) hand.old hand.new) }
+        // The history gets the claim of the run and the fill of each place, or the event whose reply the refusal is.
+        ensures logs { IfOk result
+            (λ grown. LogsGrowth self.now AllFilled hand.old hand.new grown.run) }
+        ensures logs_refusal { IfErr result
+            (LogsRefusal self.now (length values.now) hand.old hand.new) }
     {
         let n = values.len() as u64;
         let (run, ()) = self.claim_run(hand, n, ())?;
@@ -60,9 +63,11 @@ impl<T: Copy> Shared<T> {
             (Refuses self.now (length values.now) tt hand.old hand.new) }
         ensures full { HasNoRoom self.now (length values.now) hand.old → IsErrAnd result SaysFull }
         ensures not_moved { IfErr result IsNotMoved }
-        // The history gets the claim of the run, or the event whose reply the refusal is.
-        ensures logs { IfOk result (λ grown. LogsGrowth hand.old hand.new grown.run) }
-        ensures logs_refusal { IfErr result (LogsRefusal (length values.now) hand.old hand.new) }
+        // The history gets the claim of the run and the fill of each place, or the event whose reply the refusal is.
+        ensures logs { IfOk result
+            (λ grown. LogsGrowth self.now AllFilled hand.old hand.new grown.run) }
+        ensures logs_refusal { IfErr result
+            (LogsRefusal self.now (length values.now) hand.old hand.new) }
     {
         let n = values.len() as u64;
         let (run, ()) = self.claim_again(rt, hand, n, ())?;
@@ -81,9 +86,10 @@ impl<T: Copy> Shared<T> {
         ensures refused { IfErr result (Refuses self.now n tt hand.old hand.new) }
         // Room that is missing by what the hand has seen is reported before memory is asked for.
         ensures full { HasNoRoom self.now n hand.old → IsErrAnd result SaysFull }
-        // The history gets the claim of the run, or the event whose reply the refusal is.
-        ensures logs { IfOk result (λ grown. LogsGrowth hand.old hand.new grown.run) }
-        ensures logs_refusal { IfErr result (LogsRefusal n hand.old hand.new) }
+        // The history gets the claim of the run and the fill of each place, or the event whose reply the refusal is.
+        ensures logs { IfOk result
+            (λ grown. LogsGrowth self.now AllFilled hand.old hand.new grown.run) }
+        ensures logs_refusal { IfErr result (LogsRefusal self.now n hand.old hand.new) }
     {
         let (run, ()) = self.claim_run(hand, n, ())?;
         self.copy_run(hand, run, &Copies { n, value })
@@ -102,9 +108,10 @@ impl<T: Copy> Shared<T> {
         ensures refused { IfErr result (Refuses self.now n tt hand.old hand.new) }
         ensures full { HasNoRoom self.now n hand.old → IsErrAnd result SaysFull }
         ensures not_moved { IfErr result IsNotMoved }
-        // The history gets the claim of the run, or the event whose reply the refusal is.
-        ensures logs { IfOk result (λ grown. LogsGrowth hand.old hand.new grown.run) }
-        ensures logs_refusal { IfErr result (LogsRefusal n hand.old hand.new) }
+        // The history gets the claim of the run and the fill of each place, or the event whose reply the refusal is.
+        ensures logs { IfOk result
+            (λ grown. LogsGrowth self.now AllFilled hand.old hand.new grown.run) }
+        ensures logs_refusal { IfErr result (LogsRefusal self.now n hand.old hand.new) }
     {
         let (run, ()) = self.claim_again(rt, hand, n, ())?;
         self.copy_run(hand, run, &Copies { n, value })
@@ -126,10 +133,11 @@ impl<T: Drop> Shared<T> {
         // Room that is missing by what the hand has seen is reported before memory is asked for.
         ensures full { HasNoRoom self.now (length (S.values source.now)) hand.old
             → IsErrAnd result SaysFull }
-        // The history gets the claim of the run, or the event whose reply the refusal is.
-        ensures logs { IfOk result (λ grown. LogsGrowth hand.old hand.new grown.run) }
+        // The history gets the claim of the run and the fill of each place, or the event whose reply the refusal is.
+        ensures logs { IfOk result
+            (λ grown. LogsGrowth self.now AllFilled hand.old hand.new grown.run) }
         ensures logs_refusal { IfErr result
-            (LogsRefusal (length (S.values source.now)) hand.old hand.new) }
+            (LogsRefusal self.now (length (S.values source.now)) hand.old hand.new) }
     {
         let (run, ()) = self.claim_run(hand, source.len(), ())?;
         self.copy_run(hand, run, source)
@@ -138,21 +146,28 @@ impl<T: Drop> Shared<T> {
     // Fills the places of a run of the hand's with the values of the source. It stops at a place that was taken.
     fn copy_run<S: Source<T>>(
         &self,
-        hand: &Hand<T>,
+        hand: &mut Hand<T>,
         run: Run,
         source: &S,
     ) -> Result<Grown<T>, GrowError<T, (), Never>>
-        requires ours { IsHandOf self.now hand.now }
-        requires owned { OwnsPlacesOf hand.now run }
+        requires ours { IsHandOf self.now hand.old }
+        requires owned { OwnsPlacesOf hand.old run }
+        requires fresh { AreFresh hand.old run.from run.n }
         requires within { run.from + run.n ≤ limit_of self.now }
         requires values { length (S.values source.now) ≡ run.n }
         ensures run { IfOk result (λ grown. grown.run ≡ run) }
         ensures tokens { IfOk result (IsGrownOf self.now) }
         ensures values { IfOk result (λ grown. values_of grown ≡ S.values source.now) }
         ensures stopped { IfErr result (StopsIn self.now run) }
+        ensures works { WorksIn hand.old hand.new run.from run.n }
+        ensures adds { IfOk result (λ _. AddsOn self.now hand.old hand.new run run.from
+            (λ index. fill_steps index run.from run.n)) }
+        // No place is taken whose segment was laid since the opening.
+        ensures leaves { IfErr result (StopsWith self.now hand.old hand.new run) }
     {
-        // For the proof: the vector's base is within its limit.
+        // For the proof: the vector's base is within its limit, and a run's places are those of its index.
         self.laws();
+        laws::seen_runs_have_places();
         let mut filled = self.no_places();
         if run.n == 0 {
             return Ok(self.grown(run, filled));
@@ -162,7 +177,14 @@ impl<T: Drop> Shared<T> {
         while done < run.n {
             let place = run.from + done;
             self.next_segment(hand, &mut segment, place);
-            match self.copy_next(&segment, place, done, run.n - done, source) {
+            match self.copy_next(
+                &mut hand.claims,
+                &segment,
+                place,
+                done,
+                run.n - done,
+                source,
+            ) {
                 Ok(stretch) => {
                     done += stretch.n;
                     filled = self.know(filled, stretch);
@@ -179,13 +201,18 @@ impl<T: Drop> Shared<T> {
     #[tactic(auto, using(crate::proofs::PlainSegments::plain_cells))]
     fn copy_next<S: Source<T>>(
         &self,
+        claims: &mut ClaimHand,
         segment: &Segment<'_, T>,
         place: u64,
         first: u64,
         left: u64,
         source: &S,
     ) -> Result<Stretch<T>, Found<T>>
+        requires ours { IsHandOf self.now claims.old }
+        requires owned { OwnsPlacesOf claims.old record { from = place; n = left } }
+        requires fresh { AreFresh claims.old place left }
         requires segment { IsSegmentOf self.now segment.now }
+        requires row { KnowsSegment claims.old segment.now }
         requires from { segment.now.from ≤ place }
         requires before { place < segment.now.end }
         requires some { 0 < left }
@@ -194,35 +221,94 @@ impl<T: Drop> Shared<T> {
         ensures filled { IfOk result (TakesFrom self.now place (S.values source.now) first left) }
         ensures within { IfOk result (λ stretch. place + stretch.n ≤ segment.now.end) }
         ensures found { IfErr result (IsFoundAt self.now place) }
+        ensures opened { IfErr result (λ _. place < self.now.laid) }
+        ensures works { IfOk result (λ stretch. WorksIn claims.old claims.new place stretch.n) }
+        ensures adds { IfOk result (λ stretch.
+            AddsAlong self.now claims.old claims.new place stretch.n
+            (λ index. fill_steps index place stretch.n)) }
+        ensures untouched { IfErr result (λ _. IsUntouched claims.old claims.new) }
     {
-        let key = segment.key.again();
         let offset = place - segment.from;
         let n = segment.block.longest_run(offset).min(left);
+        if self.is_laid(segment.key.segment()) {
+            return Ok(self.copy_run_tied(claims, segment, place, n, first, source));
+        }
         let Some(pen) = segment.block.begin_run_plain(offset, n) else {
-            return self.fill_alone(segment, place, source.value(first));
+            return self.fill_alone(claims, segment, place, source.value(first));
         };
-        let row = publish_from(pen, n, first, source);
-        Ok(Stretch {
-            key,
+        let row = write_from(pen, n, first, source).publish();
+        let stretch = Stretch {
+            key: segment.key.again(),
             offset,
             n,
             row,
-        })
+        };
+        Ok(stretch)
+    }
+
+    // Fills `n` such places, which were laid since the opening and whose states are in one word, with values of the source
+    // from this number on.
+    #[inline(always)]
+    fn copy_run_tied<S: Source<T>>(
+        &self,
+        claims: &mut ClaimHand,
+        segment: &Segment<'_, T>,
+        place: u64,
+        n: u64,
+        first: u64,
+        source: &S,
+    ) -> Stretch<T>
+        requires ours { IsHandOf self.now claims.old }
+        requires laid { IsLaid self.now place }
+        requires owned { OwnsPlacesOf claims.old record { from = place; n = n } }
+        requires fresh { AreFresh claims.old place n }
+        requires segment { IsSegmentOf self.now segment.now }
+        requires row { KnowsSegment claims.old segment.now }
+        requires from { segment.now.from ≤ place }
+        requires within { place + n ≤ segment.now.end }
+        requires word { (place - segment.now.from) % word_cells + n ≤ word_cells }
+        requires some { 0 < n }
+        requires values { first + n ≤ length (S.values source.now) }
+        requires small { first + n ≤ most_places }
+        ensures filled { IsStretchOf self.now place (values_from (S.values source.now) first result.n)
+            result }
+        ensures n { result.n ≡ n }
+        ensures works { WorksIn claims.old claims.new place result.n }
+        ensures adds { AddsAlong self.now claims.old claims.new place result.n
+            (λ index. fill_steps index place result.n) }
+    {
+        // For the proof: the hand has seen the runs that it owns.
+        laws::seen_runs_are_within();
+        let pen = self.begin_run_tied(claims, segment, place, n);
+        let pen = write_from(pen, n, first, source);
+        let row = self.publish_tied(claims, segment, place, n, pen);
+        Stretch {
+            key: segment.key.again(),
+            offset: place - segment.from,
+            n,
+            row,
+        }
     }
 }
 
-// Writes the `n` values of the source from this number on into the cells of the run, and publishes them by one step.
+// Writes the `n` values of the source from this number on into the cells of the run.
 #[inline(always)]
-fn publish_from<T: Drop, S: Source<T>>(pen: RunPen<'_, T>, n: u64, first: u64, source: &S) -> Row<T>
+fn write_from<'a, T: Drop, B: Kind, S: Source<T>>(
+    pen: RunPen<'a, T, B>,
+    n: u64,
+    first: u64,
+    source: &S,
+) -> RunPen<'a, T, B>
     requires cells { length pen.cells ≡ n }
     requires unwritten { pen.values ≡ [] }
     requires enough { first + n ≤ length (S.values source.now) }
     requires small { first + n ≤ most_places }
-    ensures { result ≡ members_of pen.entry.cells (values_from (S.values source.now) first n) }
+    ensures run { (result.offset ≡ pen.entry.offset) × (result.cells ≡ pen.entry.cells) }
+    ensures values { result.values ≡ values_from (S.values source.now) first n }
 {
     let mut pen = pen;
     for i in 0..n {
         pen = pen.write(source.value(first + i));
     }
-    pen.publish()
+    pen
 }

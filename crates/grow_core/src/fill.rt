@@ -1,16 +1,20 @@
 // How a growth fills and breaks the places that it won, segment by segment.
-ghost use Rattle.std.specs.Prelude.{◌≡◌, ◌+◌, ◌<◌, ◌≤◌, [], ◌∷◌, IfOk, IfErr};
+ghost use Rattle.std.specs.Prelude.{◌≡◌, ◌+◌, ◌<◌, ◌≤◌, [], ◌∷◌, IfOk, IfErr, IsTrue, IsFalse};
 ghost use Rattle.std.specs.Vec.Iter.{into_iter_len};
 ghost use Rattle.claim_core.specs.Hand.{OwnsPlace};
+ghost use Rattle.claim_core.specs.History.{break_event, fill_event};
 ghost use Rattle.cell_core.specs.Block.{block_len};
-ghost use Rattle.cell_core.specs.Slot.{ArePlain};
 ghost use Rattle.cell_core.specs.Shown.{IsFoundIn, IsNotEmpty};
 ghost use Rattle.table_core.specs.Table.{IsKeyIn, IsBlockOf};
 ghost use Rattle.grow_core.specs.Token.{place_in};
-ghost use Rattle.grow_core.specs.Vector.{IsHandOf, IsPlacedOf, IsSpoiltOf, layout_of, limit_of};
-ghost use Rattle.grow_core.specs.Segment.{IsSegmentOf};
+ghost use Rattle.grow_core.specs.Vector.{IsHandOf, IsLaid, IsPlacedOf, IsSpoiltOf, layout_of, limit_of};
+ghost use Rattle.grow_core.specs.Segment.{IsSegmentOf, KnowsSegment};
 ghost use Rattle.grow_core.specs.Growth.{IsFoundAt};
+ghost use Rattle.grow_core.specs.Logs.{fill_steps};
+ghost use Rattle.grow_core.specs.Steps.{AddsAlong, AddsAt, AreFresh, IsUntouched, WorksIn};
 ghost use Rattle.grow_core.specs.Stretch.{IsCounted, IsStretchOf, Takes};
+ghost use Rattle.grow_core.specs.Keys.{OwnsPlacesOf};
+ghost use Rattle.grow_core.specs.Ties.{IsBlockBy, IsCellOf, KnowsRow};
 
 use crate::hand::Hand;
 use crate::stretch::{Stretch, publish};
@@ -18,6 +22,7 @@ use crate::ties::CellBlock;
 use crate::token::{BegunPlace, Found, Placed, Spoilt};
 use crate::vector::Shared;
 use cell_core::block;
+use claim_core::Hand as ClaimHand;
 use std::vec::IntoIter;
 use table_core::Key;
 
@@ -37,6 +42,7 @@ impl<T: Drop> Shared<T> {
         requires owned { OwnsPlace hand.now place }
         requires within { place < limit_of self.now }
         ensures segment { IsSegmentOf self.now result }
+        ensures row { KnowsSegment hand.now result }
         ensures from { result.from ≤ place }
         ensures before { place < result.end }
     {
@@ -47,7 +53,7 @@ impl<T: Drop> Shared<T> {
         let key = hand.key(segment, place);
         let from = layout.first(segment);
         Segment {
-            block: self.table.known(&key),
+            block: self.known_block(&key),
             key,
             from,
             end: from + layout.len(segment),
@@ -66,9 +72,11 @@ impl<T: Drop> Shared<T> {
         requires owned { OwnsPlace hand.now place }
         requires within { place < limit_of self.now }
         requires segment { IsSegmentOf self.now segment.old }
+        requires row { KnowsSegment hand.now segment.old }
         requires from { segment.old.from ≤ place }
         requires not_past { place ≤ segment.old.end }
         ensures segment { IsSegmentOf self.now segment.new }
+        ensures row { KnowsSegment hand.now segment.new }
         ensures from { segment.new.from ≤ place }
         ensures before { place < segment.new.end }
         ensures same { place < segment.old.end → segment.new ≡ segment.old }
@@ -79,40 +87,61 @@ impl<T: Drop> Shared<T> {
         *segment = self.find_segment(hand, place);
     }
 
-    // Fills a place of the segment with the value.
+    // Fills a place of the segment, which is the hand's own, with the value.
     pub(crate) fn fill(
         &self,
+        claims: &mut ClaimHand,
         segment: &Segment<'_, T>,
         place: u64,
         value: T,
     ) -> Result<Placed<T>, Found<T>>
+        requires ours { IsHandOf self.now claims.old }
+        requires owned { OwnsPlace claims.old place }
+        requires fresh { AreFresh claims.old place 1 }
         requires segment { IsSegmentOf self.now segment.now }
+        requires row { KnowsSegment claims.old segment.now }
         requires from { segment.now.from ≤ place }
         requires before { place < segment.now.end }
         ensures token { IfOk result (IsPlacedOf self.now) }
         ensures here { IfOk result (λ placed. placed.place ≡ place) }
         ensures value { IfOk result (λ placed. placed.value ≡ value) }
         ensures found { IfErr result (IsFoundAt self.now place) }
+        // A place whose segment was laid since the opening is never taken.
+        ensures opened { IfErr result (λ _. place < self.now.laid) }
+        ensures works { WorksIn claims.old claims.new place 1 }
+        ensures adds { AddsAt self.now claims.old claims.new place (λ index. fill_event index place) }
+        // A place that was taken is left as it is.
+        ensures untouched { IfErr result (λ _. IsUntouched claims.old claims.new) }
     {
+        let key = segment.key.again();
+        let laid = self.is_laid(key.segment());
         self.fill_cell(
+            claims,
             segment.block,
-            segment.key.again(),
+            key,
+            place,
             place - segment.from,
+            laid,
             value,
         )
     }
 
-    // Fills places of the segment with the next values: a run that begins at this place, or this place alone. Returns
-    // the values that are left.
+    // Fills places of the segment, which are the hand's own, with the next values: a run that begins at this place, or this
+    // place alone. Returns the values that are left.
     #[inline(always)]
     #[tactic(auto, using(crate::proofs::PlainSegments::plain_cells))]
     pub(crate) fn fill_next(
         &self,
+        claims: &mut ClaimHand,
         segment: &Segment<'_, T>,
         place: u64,
         values: IntoIter<T>,
     ) -> Result<(Stretch<T>, IntoIter<T>), Found<T>>
+        requires ours { IsHandOf self.now claims.old }
+        requires owned { OwnsPlacesOf claims.old record { from = place; n = into_iter_len values } }
+        requires fresh { AreFresh claims.old place (into_iter_len values) }
         requires segment { IsSegmentOf self.now segment.now }
+        requires row { KnowsSegment claims.old segment.now }
         requires from { segment.now.from ≤ place }
         requires before { place < segment.now.end }
         requires some { 0 < into_iter_len values }
@@ -120,20 +149,29 @@ impl<T: Drop> Shared<T> {
         ensures filled { IfOk result (λ (stretch, rest). Takes self.now place values rest stretch) }
         ensures within { IfOk result (λ (stretch, _). place + stretch.n ≤ segment.now.end) }
         ensures found { IfErr result (IsFoundAt self.now place) }
+        ensures opened { IfErr result (λ _. place < self.now.laid) }
+        ensures works { IfOk result (λ (stretch, _).
+            WorksIn claims.old claims.new place stretch.n) }
+        ensures adds { IfOk result (λ (stretch, _).
+            AddsAlong self.now claims.old claims.new place stretch.n
+            (λ index. fill_steps index place stretch.n)) }
+        ensures untouched { IfErr result (λ _. IsUntouched claims.old claims.new) }
     {
-        let key = segment.key.again();
         let offset = place - segment.from;
         let n = segment.block.longest_run(offset).min(values.len() as u64);
+        if self.is_laid(segment.key.segment()) {
+            return Ok(self.fill_run_tied(claims, segment, place, n, values));
+        }
         let Some(pen) = segment.block.begin_run_plain(offset, n) else {
             let mut rest = values;
             let Some(value) = rest.next() else {
                 unreachable!()
             };
-            return Ok((self.fill_alone(segment, place, value)?, rest));
+            return Ok((self.fill_alone(claims, segment, place, value)?, rest));
         };
         let (row, rest) = publish(pen, n, values);
         let stretch = Stretch {
-            key,
+            key: segment.key.again(),
             offset,
             n,
             row,
@@ -141,40 +179,62 @@ impl<T: Drop> Shared<T> {
         Ok((stretch, rest))
     }
 
-    // Fills this place of the segment with the value.
+    // Fills this place of the segment, which is the hand's own, with the value.
     #[cold]
     pub(crate) fn fill_alone(
         &self,
+        claims: &mut ClaimHand,
         segment: &Segment<'_, T>,
         place: u64,
         value: T,
     ) -> Result<Stretch<T>, Found<T>>
+        requires ours { IsHandOf self.now claims.old }
+        requires owned { OwnsPlace claims.old place }
+        requires fresh { AreFresh claims.old place 1 }
         requires segment { IsSegmentOf self.now segment.now }
+        requires row { KnowsSegment claims.old segment.now }
         requires from { segment.now.from ≤ place }
         requires before { place < segment.now.end }
         ensures filled { IfOk result (IsStretchOf self.now place (value ∷ [])) }
         ensures found { IfErr result (IsFoundAt self.now place) }
+        ensures opened { IfErr result (λ _. place < self.now.laid) }
+        ensures works { WorksIn claims.old claims.new place 1 }
+        ensures adds { AddsAt self.now claims.old claims.new place (λ index. fill_event index place) }
+        // A place that was taken is left as it is.
+        ensures untouched { IfErr result (λ _. IsUntouched claims.old claims.new) }
     {
-        let placed = self.fill(segment, place, value)?;
+        let placed = self.fill(claims, segment, place, value)?;
         Ok(self.stretch_of(placed))
     }
 
-    // Breaks a place of the segment.
-    #[tactic(auto, using(crate::proofs::Cells::small_cell, crate::proofs::PlainSegments::plain_cell))]
+    // Breaks a place of the segment, which is the hand's own.
+    #[tactic(auto, using(crate::proofs::Cells::small_cell, crate::proofs::Works::works_idle, crate::proofs::TiedCells::adds_nothing_at))]
     pub(crate) fn break_place(
         &self,
+        claims: &mut ClaimHand,
         segment: &Segment<'_, T>,
         place: u64,
     ) -> Result<Spoilt, Found<T>>
+        requires ours { IsHandOf self.now claims.old }
+        requires owned { OwnsPlace claims.old place }
+        requires fresh { AreFresh claims.old place 1 }
         requires segment { IsSegmentOf self.now segment.now }
+        requires row { KnowsSegment claims.old segment.now }
         requires from { segment.now.from ≤ place }
         requires before { place < segment.now.end }
         ensures token { IfOk result (IsSpoiltOf self.now) }
         ensures here { IfOk result (λ spoilt. spoilt.place ≡ place) }
         ensures found { IfErr result (IsFoundAt self.now place) }
+        ensures opened { IfErr result (λ _. place < self.now.laid) }
+        ensures works { WorksIn claims.old claims.new place 1 }
+        ensures adds { AddsAt self.now claims.old claims.new place (λ index. break_event index place) }
     {
         let key = segment.key.again();
         let offset = place - segment.from;
+        if self.is_laid(key.segment()) {
+            let cell = self.break_tied(claims, segment.block, &key, place, offset);
+            return Ok(Spoilt { key, cell });
+        }
         match segment.block.begin_plain(offset) {
             Ok(pen) => Ok(Spoilt {
                 key,
@@ -184,28 +244,41 @@ impl<T: Drop> Shared<T> {
         }
     }
 
-    // Fills a cell of the segment that has this key with the value.
+    // Fills a cell of the segment that has this key, which is a place of the hand's own, with the value. `laid` says whether
+    // the segment was laid since the vector was opened.
     #[inline(always)]
-    #[tactic(auto, using(crate::proofs::Cells::small_cell, crate::proofs::PlainSegments::plain_cell))]
+    #[tactic(auto, using(crate::proofs::Cells::small_cell, crate::proofs::Works::works_idle, crate::proofs::TiedCells::adds_nothing_at))]
     pub(crate) fn fill_cell(
         &self,
+        claims: &mut ClaimHand,
         block: &CellBlock<T>,
         key: Key,
+        place: u64,
         offset: u64,
+        laid: bool,
         value: T,
     ) -> Result<Placed<T>, Found<T>>
-        requires key { IsKeyIn self.now.segments key }
-        requires block { block.now ≡ key.block }
-        requires long { IsBlockOf (layout_of self.now) key.segment key.block }
-        requires within { offset < block_len block.now }
-        requires plain { ArePlain block.now.cells }
+        requires ours { IsHandOf self.now claims.old }
+        requires owned { OwnsPlace claims.old place }
+        requires fresh { AreFresh claims.old place 1 }
+        requires laid { IsTrue laid → IsLaid self.now place }
+        requires opened { IsFalse laid → place < self.now.laid }
+        requires cell { IsCellOf self.now.segments self.now.laid key block.now place offset }
+        requires row { KnowsRow claims.old key.segment block.now }
         ensures token { IfOk result (IsPlacedOf self.now) }
-        ensures here { IfOk result
-            (λ placed. placed.place ≡ place_in (layout_of self.now) key.segment offset) }
+        ensures here { IfOk result (λ placed. placed.place ≡ place) }
         ensures value { IfOk result (λ placed. placed.value ≡ value) }
-        ensures found { IfErr result
-            (IsFoundAt self.now (place_in (layout_of self.now) key.segment offset)) }
+        ensures found { IfErr result (IsFoundAt self.now place) }
+        ensures opened { IfErr result (λ _. place < self.now.laid) }
+        ensures works { WorksIn claims.old claims.new place 1 }
+        ensures adds { AddsAt self.now claims.old claims.new place (λ index. fill_event index place) }
+        // A place that was taken is left as it is.
+        ensures untouched { IfErr result (λ _. IsUntouched claims.old claims.new) }
     {
+        if laid {
+            let cell = self.fill_tied(claims, block, &key, place, offset, value);
+            return Ok(Placed { key, cell });
+        }
         match block.begin_plain(offset) {
             Ok(pen) => Ok(Placed {
                 key,

@@ -4,13 +4,12 @@ ghost use Rattle.claim_core.specs.Hand.{seen_size};
 ghost use Rattle.grow_core.specs.Vector.{IsHandOf, limit_of};
 ghost use Rattle.grow_core.specs.Growth.{SaysFull, ClaimsNothing};
 ghost use Rattle.grow_core.specs.Making.{StopsAfter, IsRefusedBy, LeavesMaker};
-ghost use Rattle.grow_core.specs.AtLeast.{WonAtLeast, MadeUpTo, RefusesAtLeast, SaysEnough, ReachesSize, IsSpared};
+ghost use Rattle.grow_core.specs.AtLeast.{WonAtLeast, MadeUpTo, RefusesAtLeast, SaysEnough, ReachesSize, IsSpared, IsNewIn};
 ghost use Rattle.grow_core.specs.Logs.{LogsAtLeast, LogsReached, LogsRefusalUpTo};
 
 use crate::errors::GrowError;
 use crate::grown::Grown;
 use crate::hand::{Hand, claiming_laws};
-use crate::keys::install;
 use crate::vector::Shared;
 use claim_core::{Enough, Run};
 
@@ -49,9 +48,10 @@ impl<T: Drop> Shared<T> {
         // The hand's size or the limit decides before memory is asked for.
         ensures enough { size ≤ seen_size hand.old → IsOkAnd result SaysEnough }
         ensures full { limit_of self.now < size → IsErrAnd result SaysFull }
-        // The history gets the claim of the run up to the size, or the event whose reply the refusal is.
-        ensures logs { IfOk result (LogsAtLeast size hand.old hand.new) }
-        ensures logs_refusal { IfErr result (LogsRefusalUpTo size hand.old hand.new) }
+        // The history gets the claim of the run up to the size and what became of each place, or the event whose reply
+        // the refusal is.
+        ensures logs { IfOk result (LogsAtLeast self.now size hand.old hand.new) }
+        ensures logs_refusal { IfErr result (LogsRefusalUpTo self.now size hand.old hand.new) }
     {
         self.make_up_to(hand, size, &mut make)
     }
@@ -71,8 +71,8 @@ impl<T: Drop> Shared<T> {
         ensures asked { IfErr result (LeavesMaker F.step make.old make.new) }
         ensures enough { size ≤ seen_size hand.old → IsOkAnd result SaysEnough }
         ensures full { limit_of self.now < size → IsErrAnd result SaysFull }
-        ensures logs { IfOk result (LogsAtLeast size hand.old hand.new) }
-        ensures logs_refusal { IfErr result (LogsRefusalUpTo size hand.old hand.new) }
+        ensures logs { IfOk result (LogsAtLeast self.now size hand.old hand.new) }
+        ensures logs_refusal { IfErr result (LogsRefusalUpTo self.now size hand.old hand.new) }
     {
         match self.claim_up_to(hand, size)? {
             Reached::Enough { size } => Ok(AtLeast::Enough { size }),
@@ -91,8 +91,10 @@ impl<T: Drop> Shared<T> {
         ensures unclaimed { IfErr result ClaimsNothing }
         ensures enough { size ≤ seen_size hand.old → IsOkAnd result IsSpared }
         ensures full { limit_of self.now < size → IsErrAnd result SaysFull }
+        // The run is the last that the hand has seen, and no place of it is known begun.
+        ensures new_run { IfOk result (IsNewIn hand.new) }
         ensures logs { IfOk result (LogsReached size hand.old hand.new) }
-        ensures logs_refusal { IfErr result (LogsRefusalUpTo size hand.old hand.new) }
+        ensures logs_refusal { IfErr result (LogsRefusalUpTo self.now size hand.old hand.new) }
     {
         let from = self.size_up_to(hand, size);
         if size <= from {
@@ -116,14 +118,18 @@ impl<T: Drop> Shared<T> {
         ensures reached { IfOk result (ReachesSize self.now size hand.old hand.new) }
         ensures refused { IfErr result (RefusesAtLeast self.now size hand.old hand.new) }
         ensures unclaimed { IfErr result ClaimsNothing }
+        // The run is the last that the hand has seen, and no place of it is known begun.
+        ensures new_run { IfOk result (IsNewIn hand.new) }
         ensures logs { IfOk result (LogsReached size hand.old hand.new) }
-        ensures logs_refusal { IfErr result (LogsRefusalUpTo size hand.old hand.new) }
+        ensures logs_refusal { IfErr result (LogsRefusalUpTo self.now size hand.old hand.new) }
     {
         // For the proof: the hand keeps its places, and owns those of the run that it gains.
         self.laws();
         claiming_laws(&hand.claims);
+        // And its keys are those of the vector's segments.
+        let _table = &self.table;
         let from = hand.seen();
-        let Ok(()) = install(&self.table, &mut hand.keys, from, size - from) else {
+        let Ok(()) = self.install(&mut hand.claims, &mut hand.keys, from, size - from) else {
             self.word.log_no_memory(&mut hand.claims);
             return Err(GrowError::NoMemory { back: () });
         };

@@ -5,14 +5,15 @@ ghost use Rattle.grow_core.specs.Grown.{IsGrownOf, AreKeptFrom, values_of};
 ghost use Rattle.grow_core.specs.Keys.{OwnsPlacesOf};
 ghost use Rattle.grow_core.specs.Growth.{WonRun, WonPlaces, Refuses, HasNoRoom, SaysFull, IsNotMoved};
 ghost use Rattle.grow_core.specs.Making.{StopsIn};
-ghost use Rattle.grow_core.specs.Logs.{LogsGrowth, LogsRefusal};
+ghost use Rattle.grow_core.specs.Logs.{LogsGrowth, LogsRefusal, AllFilled, fill_steps};
+ghost use Rattle.grow_core.specs.Steps.{AddsOn, AreFresh, StopsWith, WorksIn};
 
 use crate::errors::{GrowError, Never};
 use crate::grown::Grown;
 use crate::hand::Hand;
 use crate::token::Placed;
 use crate::vector::Shared;
-use claim_core::Run;
+use claim_core::{Run, laws};
 use std::sync::Wait;
 
 impl<T: Drop> Shared<T> {
@@ -30,9 +31,11 @@ impl<T: Drop> Shared<T> {
             (Refuses self.now (vec_len values) values hand.old hand.new) }
         // Room that is missing by what the hand has seen is reported before memory is asked for.
         ensures full { HasNoRoom self.now (vec_len values) hand.old → IsErrAnd result SaysFull }
-        // The history gets the claim of the run, or the event whose reply the refusal is.
-        ensures logs { IfOk result (λ grown. LogsGrowth hand.old hand.new grown.run) }
-        ensures logs_refusal { IfErr result (LogsRefusal (vec_len values) hand.old hand.new) }
+        // The history gets the claim of the run and the fill of each place, or the event whose reply the refusal is.
+        ensures logs { IfOk result
+            (λ grown. LogsGrowth self.now AllFilled hand.old hand.new grown.run) }
+        ensures logs_refusal { IfErr result
+            (LogsRefusal self.now (vec_len values) hand.old hand.new) }
     {
         let n = values.len() as u64;
         let (run, values) = self.claim_run(hand, n, values)?;
@@ -53,9 +56,11 @@ impl<T: Drop> Shared<T> {
         // Room that is missing by what the hand has seen is reported before memory is asked for.
         ensures full { HasNoRoom self.now (vec_len values) hand.old → IsErrAnd result SaysFull }
         ensures not_moved { IfErr result IsNotMoved }
-        // The history gets the claim of the run, or the event whose reply the refusal is.
-        ensures logs { IfOk result (λ grown. LogsGrowth hand.old hand.new grown.run) }
-        ensures logs_refusal { IfErr result (LogsRefusal (vec_len values) hand.old hand.new) }
+        // The history gets the claim of the run and the fill of each place, or the event whose reply the refusal is.
+        ensures logs { IfOk result
+            (λ grown. LogsGrowth self.now AllFilled hand.old hand.new grown.run) }
+        ensures logs_refusal { IfErr result
+            (LogsRefusal self.now (vec_len values) hand.old hand.new) }
     {
         let n = values.len() as u64;
         let (run, values) = self.claim_again(rt, hand, n, values)?;
@@ -77,9 +82,10 @@ impl<T: Drop> Shared<T> {
         // Room that is missing by what the hand has seen is reported before memory is asked for.
         ensures full { HasNoRoom self.now (vec_len values) hand.old → IsErrAnd result SaysFull }
         ensures not_moved { IfErr result IsNotMoved }
-        // The history gets the claim of the run, or the event whose reply the refusal is.
-        ensures logs { IfOk result (λ run. LogsGrowth hand.old hand.new run) }
-        ensures logs_refusal { IfErr result (LogsRefusal (vec_len values) hand.old hand.new) }
+        // The history gets the claim of the run and the fill of each place, or the event whose reply the refusal is.
+        ensures logs { IfOk result (LogsGrowth self.now AllFilled hand.old hand.new) }
+        ensures logs_refusal { IfErr result
+            (LogsRefusal self.now (vec_len values) hand.old hand.new) }
     {
         self.append_by(rt, hand, values, &mut |_placed: Placed<T>| {})
     }
@@ -102,8 +108,9 @@ impl<T: Drop> Shared<T> {
             (Refuses self.now (vec_len values) values hand.old hand.new) }
         ensures full { HasNoRoom self.now (vec_len values) hand.old → IsErrAnd result SaysFull }
         ensures not_moved { IfErr result IsNotMoved }
-        ensures logs { IfOk result (λ run. LogsGrowth hand.old hand.new run) }
-        ensures logs_refusal { IfErr result (LogsRefusal (vec_len values) hand.old hand.new) }
+        ensures logs { IfOk result (LogsGrowth self.now AllFilled hand.old hand.new) }
+        ensures logs_refusal { IfErr result
+            (LogsRefusal self.now (vec_len values) hand.old hand.new) }
     {
         let n = values.len() as u64;
         let (won, values) = self.claim_again(rt, hand, n, values)?;
@@ -113,21 +120,28 @@ impl<T: Drop> Shared<T> {
     // Fills the places of a run of the hand's with the values. It stops at a place that was taken.
     fn fill_run(
         &self,
-        hand: &Hand<T>,
+        hand: &mut Hand<T>,
         run: Run,
         values: Vec<T>,
     ) -> Result<Grown<T>, GrowError<T, Vec<T>, Never>>
-        requires ours { IsHandOf self.now hand.now }
-        requires owned { OwnsPlacesOf hand.now run }
+        requires ours { IsHandOf self.now hand.old }
+        requires owned { OwnsPlacesOf hand.old run }
+        requires fresh { AreFresh hand.old run.from run.n }
         requires within { run.from + run.n ≤ limit_of self.now }
         requires values { vec_len values ≡ run.n }
         ensures run { IfOk result (λ grown. grown.run ≡ run) }
         ensures tokens { IfOk result (IsGrownOf self.now) }
         ensures values { IfOk result (λ grown. values_of grown ≡ values.items) }
         ensures stopped { IfErr result (StopsIn self.now run) }
+        ensures works { WorksIn hand.old hand.new run.from run.n }
+        ensures adds { IfOk result (λ _. AddsOn self.now hand.old hand.new run run.from
+            (λ index. fill_steps index run.from run.n)) }
+        // No place is taken whose segment was laid since the opening.
+        ensures leaves { IfErr result (StopsWith self.now hand.old hand.new run) }
     {
-        // For the proof: the vector's base is within its limit.
+        // For the proof: the vector's base is within its limit, and a run's places are those of its index.
         self.laws();
+        laws::seen_runs_have_places();
         let mut filled = self.no_places();
         if run.n == 0 {
             return Ok(self.grown(run, filled));
@@ -137,7 +151,7 @@ impl<T: Drop> Shared<T> {
         let mut place = run.from;
         while place < run.from + run.n {
             self.next_segment(hand, &mut segment, place);
-            match self.fill_next(&segment, place, left) {
+            match self.fill_next(&mut hand.claims, &segment, place, left) {
                 Ok((stretch, rest)) => {
                     place += stretch.n;
                     filled = self.know(filled, stretch);
@@ -152,13 +166,14 @@ impl<T: Drop> Shared<T> {
     // Like `fill_run`, with each token given to `keep`.
     fn place_run<K: FnMut(Placed<T>)>(
         &self,
-        hand: &Hand<T>,
+        hand: &mut Hand<T>,
         run: Run,
         values: Vec<T>,
         keep: &mut K,
     ) -> Result<Run, GrowError<T, Vec<T>, Never>>
-        requires ours { IsHandOf self.now hand.now }
-        requires owned { OwnsPlacesOf hand.now run }
+        requires ours { IsHandOf self.now hand.old }
+        requires owned { OwnsPlacesOf hand.old run }
+        requires fresh { AreFresh hand.old run.from run.n }
         requires within { run.from + run.n ≤ limit_of self.now }
         requires values { vec_len values ≡ run.n }
         requires callable { K.IsAlwaysCallable keep.old }
@@ -166,9 +181,15 @@ impl<T: Drop> Shared<T> {
         ensures kept { IfOk result
             (λ _. AreKeptFrom K.step keep.old keep.new self.now run.from values.items) }
         ensures stopped { IfErr result (StopsIn self.now run) }
+        ensures works { WorksIn hand.old hand.new run.from run.n }
+        ensures adds { IfOk result (λ _. AddsOn self.now hand.old hand.new run run.from
+            (λ index. fill_steps index run.from run.n)) }
+        // No place is taken whose segment was laid since the opening.
+        ensures leaves { IfErr result (StopsWith self.now hand.old hand.new run) }
     {
-        // For the proof: the vector's base is within its limit.
+        // For the proof: the vector's base is within its limit, and a run's places are those of its index.
         self.laws();
+        laws::seen_runs_have_places();
         if run.n == 0 {
             return Ok(run);
         }
@@ -177,7 +198,7 @@ impl<T: Drop> Shared<T> {
         let mut place = run.from;
         while place < run.from + run.n {
             self.next_segment(hand, &mut segment, place);
-            match self.fill_next(&segment, place, left) {
+            match self.fill_next(&mut hand.claims, &segment, place, left) {
                 Ok((stretch, rest)) => {
                     self.keep_tokens(&stretch, keep);
                     place += stretch.n;

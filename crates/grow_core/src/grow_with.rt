@@ -1,14 +1,15 @@
 //! Growths whose values are made in place, by a function that may refuse, or by clones.
-ghost use Rattle.std.specs.Prelude.{◌≡◌, ◌+◌, ◌<◌, ◌≤◌, List, All, IfOk, IfErr, IsErrAnd, length};
+ghost use Rattle.std.specs.Prelude.{◌≡◌, ◌+◌, ◌-◌, ◌<◌, ◌≤◌, List, All, IfOk, IfErr, IsSome, IsErrAnd, length};
 ghost use Rattle.grow_core.specs.Vector.{IsHandOf, limit_of};
 ghost use Rattle.grow_core.specs.Grown.{IsGrownOf, values_of};
 ghost use Rattle.grow_core.specs.Filled.{IsFilledOf};
 ghost use Rattle.grow_core.specs.Keys.{OwnsPlacesOf};
 ghost use Rattle.grow_core.specs.Growth.{Refuses, HasNoRoom, SaysFull, IsNotMoved};
 ghost use Rattle.grow_core.specs.Making.{Makes, StopsAfter, StopsIn, LeavesMaker, IsRefusedBy, IsTakenFrom};
-ghost use Rattle.grow_core.specs.Making.{WonMade, WonClones};
+ghost use Rattle.grow_core.specs.Making.{WonMade, WonClones, IsRefusedAfter, OnRefused, TakesBelow};
 ghost use Rattle.grow_core.specs.Begun.{AreUnwritten, begun_count};
-ghost use Rattle.grow_core.specs.Logs.{LogsGrowth, LogsRefusal};
+ghost use Rattle.grow_core.specs.Logs.{LogsGrowth, LogsRefusal, AllFilled, break_steps, fill_steps};
+ghost use Rattle.grow_core.specs.Steps.{AddsOn, AreFresh, StopsWith, WorksIn};
 
 use crate::begun::{break_begun, count_begun};
 use crate::errors::GrowError;
@@ -18,7 +19,7 @@ use crate::hand::Hand;
 use crate::token::{Found, Spoilt};
 use crate::vector::Shared;
 use cell_core::block::RunPen;
-use claim_core::Run;
+use claim_core::{Run, laws};
 use std::alloc::AllocError;
 use std::sync::Wait;
 
@@ -42,9 +43,11 @@ impl<T: Drop> Shared<T> {
         ensures cause { IfErr result (IsRefusedBy (StopsAfter F.step make)) }
         // Room that is missing by what the hand has seen is reported before memory is asked for.
         ensures full { HasNoRoom self.now n hand.old → IsErrAnd result SaysFull }
-        // The history gets the claim of the run, or the event whose reply the refusal is.
-        ensures logs { IfOk result (λ grown. LogsGrowth hand.old hand.new grown.run) }
-        ensures logs_refusal { IfErr result (LogsRefusal n hand.old hand.new) }
+        // The history gets the claim of the run and what became of each place, or the event whose reply the refusal
+        // is.
+        ensures logs { IfOk result
+            (λ grown. LogsGrowth self.now AllFilled hand.old hand.new grown.run) }
+        ensures logs_refusal { IfErr result (LogsRefusal self.now n hand.old hand.new) }
     {
         self.try_make(hand, n, &mut make)
     }
@@ -63,8 +66,9 @@ impl<T: Drop> Shared<T> {
         ensures refused { IfErr result (Refuses self.now n tt hand.old hand.new) }
         ensures asked { IfErr result (LeavesMaker F.step make.old make.new) }
         ensures full { HasNoRoom self.now n hand.old → IsErrAnd result SaysFull }
-        ensures logs { IfOk result (λ grown. LogsGrowth hand.old hand.new grown.run) }
-        ensures logs_refusal { IfErr result (LogsRefusal n hand.old hand.new) }
+        ensures logs { IfOk result
+            (λ grown. LogsGrowth self.now AllFilled hand.old hand.new grown.run) }
+        ensures logs_refusal { IfErr result (LogsRefusal self.now n hand.old hand.new) }
     {
         let (run, ()) = self.claim_run(hand, n, ())?;
         self.make_run(hand, run, make)
@@ -86,9 +90,11 @@ impl<T: Drop> Shared<T> {
         ensures cause { IfErr result (IsRefusedBy (StopsAfter F.step make)) }
         ensures full { HasNoRoom self.now n hand.old → IsErrAnd result SaysFull }
         ensures not_moved { IfErr result IsNotMoved }
-        // The history gets the claim of the run, or the event whose reply the refusal is.
-        ensures logs { IfOk result (λ grown. LogsGrowth hand.old hand.new grown.run) }
-        ensures logs_refusal { IfErr result (LogsRefusal n hand.old hand.new) }
+        // The history gets the claim of the run and what became of each place, or the event whose reply the refusal
+        // is.
+        ensures logs { IfOk result
+            (λ grown. LogsGrowth self.now AllFilled hand.old hand.new grown.run) }
+        ensures logs_refusal { IfErr result (LogsRefusal self.now n hand.old hand.new) }
     {
         self.make_again(rt, hand, n, &mut make)
     }
@@ -109,8 +115,9 @@ impl<T: Drop> Shared<T> {
         ensures asked { IfErr result (LeavesMaker F.step make.old make.new) }
         ensures full { HasNoRoom self.now n hand.old → IsErrAnd result SaysFull }
         ensures not_moved { IfErr result IsNotMoved }
-        ensures logs { IfOk result (λ grown. LogsGrowth hand.old hand.new grown.run) }
-        ensures logs_refusal { IfErr result (LogsRefusal n hand.old hand.new) }
+        ensures logs { IfOk result
+            (λ grown. LogsGrowth self.now AllFilled hand.old hand.new grown.run) }
+        ensures logs_refusal { IfErr result (LogsRefusal self.now n hand.old hand.new) }
     {
         let (run, ()) = self.claim_again(rt, hand, n, ())?;
         self.make_run(hand, run, make)
@@ -120,12 +127,13 @@ impl<T: Drop> Shared<T> {
     // and after a refusal it breaks the places that are left.
     pub(crate) fn make_run<E: Drop, F: FnMut(u64) -> Result<T, E>>(
         &self,
-        hand: &Hand<T>,
+        hand: &mut Hand<T>,
         run: Run,
         make: &mut F,
     ) -> Result<Grown<T>, GrowError<T, (), E>>
-        requires ours { IsHandOf self.now hand.now }
-        requires owned { OwnsPlacesOf hand.now run }
+        requires ours { IsHandOf self.now hand.old }
+        requires owned { OwnsPlacesOf hand.old run }
+        requires fresh { AreFresh hand.old run.from run.n }
         requires within { run.from + run.n ≤ limit_of self.now }
         requires callable { F.IsAlwaysCallable make.old }
         ensures run { IfOk result (λ grown. grown.run ≡ run) }
@@ -134,9 +142,16 @@ impl<T: Drop> Shared<T> {
         ensures made { IfOk result (λ grown. Makes F.step make.old (values_of grown) make.new) }
         ensures stopped { IfErr result (StopsIn self.now run) }
         ensures asked { IfErr result (LeavesMaker F.step make.old make.new) }
+        ensures works { WorksIn hand.old hand.new run.from run.n }
+        ensures adds { IfOk result (λ _. AddsOn self.now hand.old hand.new run run.from
+            (λ index. fill_steps index run.from run.n)) }
+        ensures leaves { IfErr result (StopsWith self.now hand.old hand.new run) }
     {
-        // For the proof: the vector's base is within its limit.
+        // For the proof: the vector's base is within its limit, and a run's places are those of its index.
         self.laws();
+        laws::seen_runs_have_places();
+        // And a segment that is not of those laid since the opening ends where these begin, or before.
+        let _table = &self.table;
         let mut filled = self.no_places();
         if run.n == 0 {
             return Ok(self.grown(run, filled));
@@ -150,7 +165,14 @@ impl<T: Drop> Shared<T> {
             };
             let place = run.from + i;
             self.next_segment(hand, &mut segment, place);
-            let (put, others) = self.fill_begun(&segment, place, run.n - i, begun, value);
+            let (put, others) = self.fill_begun(
+                &mut hand.claims,
+                &segment,
+                place,
+                run.n - i,
+                begun,
+                value,
+            );
             begun = others;
             match put {
                 Ok(placed) => filled = self.know(filled, self.stretch_of(placed)),
@@ -166,26 +188,33 @@ impl<T: Drop> Shared<T> {
     #[cold]
     fn stop<E: Drop>(
         &self,
-        hand: &Hand<T>,
+        hand: &mut Hand<T>,
         run: Run,
         n: u64,
         filled: Filled<T>,
         cause: E,
         begun: Option<RunPen<'_, T>>,
     ) -> GrowError<T, (), E>
-        requires ours { IsHandOf self.now hand.now }
-        requires owned { OwnsPlacesOf hand.now run }
+        requires ours { IsHandOf self.now hand.old }
+        requires owned { OwnsPlacesOf hand.old run }
+        requires fresh { AreFresh hand.old (run.from + n) (run.n - n) }
         requires within { run.from + run.n ≤ limit_of self.now }
         requires filled { (values : List T) × (length values ≡ n)
             × IsFilledOf self.now run.from values filled }
         requires fewer { n < run.n }
         requires unwritten { AreUnwritten begun }
         requires begun { n + begun_count begun ≤ run.n }
+        requires plain { IsSome begun → run.from + n < self.now.laid }
         ensures stopped { StopsIn self.now run result }
         // The places before it have their values still.
         ensures after { IsTakenFrom (run.from + n) result }
         ensures cause { (values : List T) → IsFilledOf self.now run.from values filled
             → IsRefusedBy (λ made why. (made ≡ values) × (why ≡ cause)) result }
+        ensures made { IsRefusedAfter n result }
+        ensures works { WorksIn hand.old hand.new (run.from + n) (run.n - n) }
+        ensures adds { OnRefused result (AddsOn self.now hand.old hand.new run (run.from + n)
+            (λ index. break_steps index (run.from + n) (run.n - n))) }
+        ensures opened { TakesBelow self.now.laid result }
     {
         let made = Run { from: run.from, n };
         let first = n + count_begun(&begun);
@@ -233,9 +262,11 @@ impl<T: Clone> Shared<T> {
         ensures refused { IfErr result (Refuses self.now n tt hand.old hand.new) }
         ensures made { IfErr result (IsRefusedBy (λ values _. All (T.is_clone value.now) values)) }
         ensures full { HasNoRoom self.now n hand.old → IsErrAnd result SaysFull }
-        // The history gets the claim of the run, or the event whose reply the refusal is.
-        ensures logs { IfOk result (λ grown. LogsGrowth hand.old hand.new grown.run) }
-        ensures logs_refusal { IfErr result (LogsRefusal n hand.old hand.new) }
+        // The history gets the claim of the run and what became of each place, or the event whose reply the refusal
+        // is.
+        ensures logs { IfOk result
+            (λ grown. LogsGrowth self.now AllFilled hand.old hand.new grown.run) }
+        ensures logs_refusal { IfErr result (LogsRefusal self.now n hand.old hand.new) }
     {
         let make = |_: u64| -> Result<T, AllocError>
             ensures { IfOk result (T.is_clone value.entry.now) }
@@ -257,9 +288,11 @@ impl<T: Clone> Shared<T> {
         ensures made { IfErr result (IsRefusedBy (λ values _. All (T.is_clone value.now) values)) }
         ensures full { HasNoRoom self.now n hand.old → IsErrAnd result SaysFull }
         ensures not_moved { IfErr result IsNotMoved }
-        // The history gets the claim of the run, or the event whose reply the refusal is.
-        ensures logs { IfOk result (λ grown. LogsGrowth hand.old hand.new grown.run) }
-        ensures logs_refusal { IfErr result (LogsRefusal n hand.old hand.new) }
+        // The history gets the claim of the run and what became of each place, or the event whose reply the refusal
+        // is.
+        ensures logs { IfOk result
+            (λ grown. LogsGrowth self.now AllFilled hand.old hand.new grown.run) }
+        ensures logs_refusal { IfErr result (LogsRefusal self.now n hand.old hand.new) }
     {
         let make = |_: u64| -> Result<T, AllocError>
             ensures { IfOk result (T.is_clone value.entry.now) }

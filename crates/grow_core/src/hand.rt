@@ -2,12 +2,14 @@
 ghost use Rattle.std.specs.Prelude.{◌≡◌, ℕ, ◌+◌, ◌<◌, ◌≤◌, ◌↔◌, nat_eq, IsTrue, All, Contains, length, []};
 ghost use Rattle.std.specs.List.{IsDistinct};
 ghost use Rattle.claim_core.specs.Lengths.{Tiles, times};
-ghost use Rattle.claim_core.specs.Hand.{IsWholeHand, OwnsPlace, seen_size, own_places};
+ghost use Rattle.claim_core.specs.Hand.{IsWholeHand, OwnsPlace, SeesBegun, seen_size, own_places};
 ghost use Rattle.claim_core.specs.History.{IsHistoryOf, lengths_of};
 ghost use Rattle.claim_core.specs.Laws.{OwnPlacesStay, AddedPlacesAreOfTheRun, AddedPlacesAreOwned, AddedRunsAreOwned, FullIsNote};
+ghost use Rattle.claim_core.specs.Laws.{AddedPlacesAreNotBegun, AddedRunsAreLast, SeenRunsHavePlaces, EventsFollow, StepsGoOn};
 ghost use Rattle.claim_core.specs.Shares.{all_shares};
 ghost use Rattle.seg_core.specs.Segment.{HasPlace, most_segments};
 ghost use Rattle.grow_core.specs.Keys.{IsKeyed, IsKeyAt, AreKeys, HasKeysOfPlaces, layout_in};
+ghost use Rattle.grow_core.specs.Ties.{KnowsRow, KnowsRows};
 ghost use mathlib.Core.List.{IsPrefix};
 
 use crate::keys::{Keys, key_of, no_keys};
@@ -26,14 +28,25 @@ pub(crate) fn claiming_laws(claims: &ClaimHand)
     ensures owned { AddedPlacesAreOwned }
     ensures runs { AddedRunsAreOwned }
     ensures full { FullIsNote }
+    ensures begun { SeesBegun claims.now }
+    ensures fresh { AddedPlacesAreNotBegun }
+    ensures last { AddedRunsAreLast }
+    ensures have { SeenRunsHavePlaces }
+    ensures follow { EventsFollow }
+    ensures go_on { StepsGoOn }
 {
-    // For the proof: what holds of the hand's runs, and of any run that is added.
+    // For the proof: what holds of the hand's runs, and of any run that is added; and how steps add events.
     claims.laws();
     laws::own_places_stay();
     laws::added_places_are_of_the_run();
     laws::added_places_are_owned();
     laws::added_runs_are_owned();
     laws::refusals_are_notes();
+    laws::added_places_are_not_begun();
+    laws::added_runs_are_last();
+    laws::seen_runs_have_places();
+    laws::events_follow();
+    laws::steps_go_on();
 }
 
 // The `Hand` of `claim_core`, with the keys of its runs' segments.
@@ -49,12 +62,13 @@ pub struct Hand<T> {
 impl<T> Model for Hand<T> {
     ghost use Rattle.claim_core.specs.Hand.{HandView};
     ghost use Rattle.grow_core.specs.Keys.{IsKeyed};
+    ghost use Rattle.grow_core.specs.Ties.{KnowsRows};
 
     ghost Value = { HandView };
 
     ghost view = { λ h. h.claims };
 
-    ghost invariant = { λ h. IsKeyed h.claims h.keys };
+    ghost invariant = { λ h. IsKeyed h.claims h.keys × KnowsRows h.claims h.keys };
 }
 
 impl<T> fmt::Debug for Hand<T> {
@@ -76,10 +90,11 @@ impl<T> Hand<T> {
         }
     }
 
-    // What every hand keeps: it has the key of each segment that its own runs touch. It does nothing but show
-    // the row.
+    // What every hand keeps: it has the key of each segment that its own runs touch, and knows where the places of
+    // tied ones stand. It does nothing but show the row.
     pub(crate) fn keys(&self) -> &Keys
-        ensures { IsKeyed self.now result.now }
+        ensures keyed { IsKeyed self.now result.now }
+        ensures rows { KnowsRows self.now result.now }
     {
         &self.keys
     }
@@ -102,7 +117,8 @@ impl<T> Hand<T> {
         requires small { segment < most_segments }
         requires owned { OwnsPlace self.now place }
         requires there { HasPlace (layout_in self.now.of.mark) segment place }
-        ensures { IsKeyAt self.now.of.mark segment result }
+        ensures key { IsKeyAt self.now.of.mark segment result }
+        ensures row { KnowsRow self.now segment result.block }
     {
         // Only the contract speaks of the place.
         let _ = place;

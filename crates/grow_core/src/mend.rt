@@ -1,13 +1,16 @@
 //! Mending: filling a broken place.
-ghost use Rattle.std.specs.Prelude.{◌≡◌, ◌<◌, IfOk, IfErr, IsErrAnd};
+ghost use Rattle.std.specs.Prelude.{◌≡◌, ◌<◌, ℕ, IfOk, IfErr, IsErrAnd};
+ghost use Rattle.seg_core.specs.Segment.{HasPlace, segment_count, segment_start};
 ghost use Rattle.claim_core.specs.Hand.{seen_size};
 ghost use Rattle.cell_core.specs.Block.{IsMended, block_len};
-ghost use Rattle.cell_core.specs.Shown.{IsFoundIn, ShowsFilled};
+ghost use Rattle.cell_core.specs.Shown.{IsFoundIn, IsNotBroken, ShowsFilled};
 ghost use Rattle.table_core.specs.Table.{IsBlockOf, IsKeyIn};
 ghost use Rattle.grow_core.specs.Token.{place_in};
-ghost use Rattle.grow_core.specs.Vector.{IsHandOf, IsOpenedAt, IsPlacedOf, SeesMore, base_of, layout_of, limit_of};
-ghost use Rattle.grow_core.specs.Mend.{IsMendDue, IsUnmendedAt, IsTakenAt, IsSeen, TellsValue};
-ghost use Rattle.grow_core.specs.Logs.{LogsNothing, LogsMendRefusal};
+ghost use Rattle.grow_core.specs.Vector.{IsHandOf, IsOpenedAt, IsLaid, IsPlacedOf, SeesMore, base_of, layout_of};
+ghost use Rattle.grow_core.specs.Mend.{IsMendDue, IsUnmendedAt, IsTakenAt, IsSeen, SaysFilled, TellsValue};
+ghost use Rattle.grow_core.specs.Logs.{LogsNothing, LogsMend, LogsMendRefusal, IsFinishedIn};
+ghost use Rattle.grow_core.specs.Shown.{found_steps, unmended_steps};
+ghost use Rattle.grow_core.specs.Steps.{FindsMore};
 
 use crate::blocks::cell_of;
 use crate::errors::MendError;
@@ -15,6 +18,7 @@ use crate::hand::Hand;
 use crate::token::Placed;
 use crate::vector::Shared;
 use cell_core::block::{self, Pen};
+use claim_core::laws;
 use table_core::Key;
 
 impl<T> Shared<T> {
@@ -48,10 +52,29 @@ impl<T> Shared<T> {
         ensures logs { IfOk result (λ _. LogsNothing hand.old hand.new) }
         ensures logs_refusal { IfErr result
             (λ (error, _). LogsMendRefusal place hand.old hand.new error) }
+        // It gets the mend and its fill, or the look that found the place pending or filled.
+        ensures mends { LogsMend self.now place hand.old hand.new result }
+        // A caller that has seen the place filled in the history finds it filled.
+        ensures finished { IsFinishedIn hand.old.log place → IsLaid self.now place
+            → IsErrAnd result (λ (error, _). SaysFilled error) }
     {
+        // For the proof: a place that a history fills stays so.
+        laws::finished_places_are_found();
         let size = self.size_past(hand, place);
         if place >= size {
+            // For the proof: the hand's history is a legal one.
+            hand.laws();
             return Err((MendError::OutOfRange { size }, value));
+        }
+        // For the proof: the opened list lies in segments that it brought, and the size is within the limit.
+        self.laws();
+        hand.laws();
+        let (segment, offset) = self.table.layout().locate(place);
+        if self.is_laid(segment) {
+            let mended = self.mend_laid(hand, segment, offset, place, value);
+            // For the proof: the hand's history is a legal one.
+            hand.laws();
+            return mended;
         }
         match self.take_broken(place) {
             Ok((key, pen)) => Ok(Placed {
@@ -62,9 +85,54 @@ impl<T> Shared<T> {
         }
     }
 
-    // Takes a broken place: the right to fill its cell, with the key of its segment.
+    // The same of a place that the hand has seen claimed, whose segment was laid since the opening.
+    #[tactic(auto, using(crate::proofs::Cells::small_cell))]
+    fn mend_laid(
+        &self,
+        hand: &mut Hand<T>,
+        segment: u32,
+        offset: u64,
+        place: u64,
+        value: T,
+    ) -> Result<Placed<T>, (MendError<T>, T)>
+        requires ours { IsHandOf self.now hand.old }
+        requires seen { place < seen_size hand.old }
+        requires within { segment < segment_count (layout_of self.now) }
+        requires there { HasPlace (layout_of self.now) segment place }
+        requires place { place ≡ place_in (layout_of self.now) segment offset }
+        requires laid { IsLaid self.now (segment_start (layout_of self.now) segment) }
+        ensures token { IfOk result (IsPlacedOf self.now) }
+        ensures here { IfOk result (λ placed. placed.place ≡ place) }
+        ensures value { IfOk result (λ placed. placed.value ≡ value) }
+        ensures mended { IfOk result (λ placed. IsMended placed.cell) }
+        ensures refused { IfErr result (λ (error, _). IsUnmendedAt self.now place error) }
+        ensures value_back { IfErr result (λ (_, back). back ≡ value) }
+        ensures finds { FindsMore hand.old hand.new }
+        ensures mends { LogsMend self.now place hand.old hand.new result }
+    {
+        let Some((block, key)) = self.scout_tied(&mut hand.claims, segment, place) else {
+            return Err((MendError::Pending, value));
+        };
+        match self.take_tied(&mut hand.claims, block, &key, place, offset) {
+            Ok(pen) => {
+                let cell = self.fill_taken(
+                    &mut hand.claims,
+                    block,
+                    &key,
+                    place,
+                    offset,
+                    pen,
+                    value,
+                );
+                Ok(Placed { key, cell })
+            }
+            Err(found) => Err((self.unmended(key, offset, found), value)),
+        }
+    }
+
+    // Takes a broken place of the segments of the opened list: the right to fill its cell, with the key of its segment.
     fn take_broken(&self, place: u64) -> Result<(Key, Pen<'_, T>), MendError<T>>
-        requires { place < limit_of self.now }
+        requires { place < self.now.laid }
         ensures taken { IfOk result (IsTakenAt self.now.segments place) }
         ensures refused { IfErr result (IsUnmendedAt self.now place) }
         ensures opened { (x : T) → IsOpenedAt self.now place x → IsErrAnd result (TellsValue x) }
@@ -85,26 +153,22 @@ impl<T> Shared<T> {
         ensures opened { (x : T) → IsOpenedAt self.now place x → IsErrAnd result (TellsValue x) }
     {
         let (_, offset, key) = cell_of(&self.table, &self.keys, self.count, place);
-        let block = self.table.known(&key);
+        let block = self.known_block(&key);
         match block.mend_member_plain(offset, &self.row.at(place), &self.ended) {
             Ok(pen) => Ok((key, pen)),
             Err(found) => Err(self.unmended(key, offset, found)),
         }
     }
 
-    // The same of a place that was claimed, or not even that. Nothing is there yet if its segment is not.
+    // The same of a place past that list, or one that was not even claimed.
     #[tactic(auto, using(crate::proofs::PlainSegments::plain_cell))]
     fn take_claimed(&self, place: u64) -> Result<(Key, Pen<'_, T>), MendError<T>>
-        requires { place < limit_of self.now }
+        requires { place < self.now.laid }
         ensures taken { IfOk result (IsTakenAt self.now.segments place) }
         ensures refused { IfErr result (IsUnmendedAt self.now place) }
     {
-        // For the proof: the vector's base is within its limit.
-        self.laws();
-        let (segment, offset) = self.table.layout().locate(place);
-        let Some((block, key)) = self.table.scout_key(segment) else {
-            return Err(MendError::Pending);
-        };
+        let (_, offset, key) = cell_of(&self.table, &self.keys, self.count, place);
+        let block = self.known_block(&key);
         match block.mend_plain(offset) {
             Ok(pen) => Ok((key, pen)),
             Err(found) => Err(self.unmended(key, offset, found)),
@@ -123,6 +187,7 @@ impl<T> Shared<T> {
         ensures refused { IsUnmendedAt self.now
             (place_in (layout_of self.now) key.segment offset) result }
         ensures value { (x : T) → ShowsFilled x found → TellsValue x result }
+        ensures steps { (place : ℕ) → IsNotBroken found → unmended_steps place result ≡ found_steps place found }
     {
         // Only the contract speaks of the offset.
         let _ = offset;

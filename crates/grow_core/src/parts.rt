@@ -5,7 +5,7 @@ ghost use Rattle.grow_core.specs.Parts.{IsSpare, capacity_of, one_if_broken};
 ghost use Rattle.grow_core.specs.PopSegment.{IsUnbroken};
 ghost use Rattle.grow_core.specs.Slices.{HasBroken};
 
-use crate::blocks::{cell_of, put_block, take_block, write};
+use crate::blocks::{cell_of, clear_entry, put_block, take_block, write};
 use crate::keys::{Keys, no_keys};
 use crate::ties::SegmentTable;
 use cell_core::block::{Epoch, Row};
@@ -41,7 +41,7 @@ impl<T> Model for Parts<T> {
     ghost use Rattle.std.specs.Prelude.{◌≡◌, option_map};
     ghost use Rattle.grow_core.specs.Parts.{PartsView, parts_coded, broken_count, values_in, AreWhole, AreBrokenIn};
     ghost use Rattle.grow_core.specs.Closing.{IsKept};
-    ghost use Rattle.grow_core.specs.Ties.{ArePlainSegments};
+    ghost use Rattle.grow_core.specs.Ties.{ArePlainBelow};
 
     ghost Value = { PartsView T };
 
@@ -59,7 +59,7 @@ impl<T> Model for Parts<T> {
         p.count
         × IsKept p.table.layout (option_map (λ m. m.numbers) p.closed) p.before p.table.names p.keys p.row p.count
         × AreBrokenIn p.epoch p.row × (p.broken ≡ broken_count (values_in p.row))
-        × ArePlainSegments p.table };
+        × ArePlainBelow p.table p.count };
 }
 
 // Counts a member: 1 if it is broken, otherwise 0.
@@ -208,6 +208,8 @@ impl<T: Drop> Parts<T> {
         ensures same { IfErr result (λ _. self.new.segments ≡ self.old.segments) }
     {
         self.closed = None;
+        // The entry may be tied still, if a vector was closed into the list.
+        clear_entry(&mut self.table, &mut self.keys, self.count);
         let (_, key) = self.table.install_key(self.count)?;
         self.keys.set(self.count, Some(key));
         self.count += 1;

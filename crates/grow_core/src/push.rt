@@ -1,13 +1,13 @@
 //! How one value is appended.
 ghost use Rattle.std.specs.Prelude.{◌≡◌, ◌<◌, IfOk, IfErr, IsErrAnd, IsTrue};
-ghost use Rattle.claim_core.specs.Hand.{LogsRun, seen_size};
+ghost use Rattle.claim_core.specs.Hand.{seen_size};
 ghost use Rattle.grow_core.specs.Vector.{IsHandOf, limit_of};
-ghost use Rattle.grow_core.specs.Growth.{WonPlace, Refuses, HasNoRoom, SaysFull, IsNotMoved, single};
-ghost use Rattle.grow_core.specs.Logs.{LogsRefusal};
+ghost use Rattle.grow_core.specs.Growth.{WonPlace, Refuses, HasNoRoom, SaysFull, IsNotMoved};
+ghost use Rattle.grow_core.specs.Logs.{LogsPush, LogsRefusal};
 
 use crate::errors::{GrowError, Never};
 use crate::hand::{Hand, claiming_laws};
-use crate::keys::{key_for, key_of};
+use crate::keys::key_of;
 use crate::token::Placed;
 use crate::vector::Shared;
 use claim_core::Moved;
@@ -29,9 +29,9 @@ impl<T: Drop> Shared<T> {
         ensures refused { IfErr result (Refuses self.now 1 value hand.old hand.new) }
         // Room that is missing by what the hand has seen is reported before memory is asked for.
         ensures full { HasNoRoom self.now 1 hand.old → IsErrAnd result SaysFull }
-        // The history gets the claim of the place, or the event whose reply the refusal is.
-        ensures logs { IfOk result (λ placed. LogsRun hand.old hand.new (single placed.place)) }
-        ensures logs_refusal { IfErr result (LogsRefusal 1 hand.old hand.new) }
+        // The history gets the claim of the place and its fill, or the event whose reply the refusal is.
+        ensures logs { IfOk result (λ placed. LogsPush self.now hand.old hand.new placed.place) }
+        ensures logs_refusal { IfErr result (LogsRefusal self.now 1 hand.old hand.new) }
     {
         let from = self.look_at_size(hand);
         self.push_at(hand, from, value)
@@ -52,9 +52,9 @@ impl<T: Drop> Shared<T> {
         ensures refused { IfErr result (Refuses self.now 1 value hand.old hand.new) }
         // Room that is missing by what the hand has seen is reported before memory is asked for.
         ensures full { HasNoRoom self.now 1 hand.old → IsErrAnd result SaysFull }
-        // The history gets the claim of the place, or the event whose reply the refusal is.
-        ensures logs { IfOk result (λ placed. LogsRun hand.old hand.new (single placed.place)) }
-        ensures logs_refusal { IfErr result (LogsRefusal 1 hand.old hand.new) }
+        // The history gets the claim of the place and its fill, or the event whose reply the refusal is.
+        ensures logs { IfOk result (λ placed. LogsPush self.now hand.old hand.new placed.place) }
+        ensures logs_refusal { IfErr result (LogsRefusal self.now 1 hand.old hand.new) }
     {
         let seen = hand.seen();
         self.push_at(hand, seen, value)
@@ -62,6 +62,7 @@ impl<T: Drop> Shared<T> {
 
     /// Tests whether there is room at the size that the hand has seen, and the hand has the key of the segment there.
     /// Then `try_push_seen` requests no memory.
+    /// The hand does not learn the segments that `reserve` installs; a push there requests no memory either.
     #[inline(always)]
     pub fn knows_next(&self, hand: &Hand<T>) -> bool
         ensures room { IsTrue result → seen_size hand.now < limit_of self.now }
@@ -92,8 +93,8 @@ impl<T: Drop> Shared<T> {
         ensures here { IfOk result (λ placed. placed.place ≡ from) }
         ensures refused { IfErr result (Refuses self.now 1 value hand.old hand.new) }
         ensures full { HasNoRoom self.now 1 hand.old → IsErrAnd result SaysFull }
-        ensures logs { IfOk result (λ placed. LogsRun hand.old hand.new (single placed.place)) }
-        ensures logs_refusal { IfErr result (LogsRefusal 1 hand.old hand.new) }
+        ensures logs { IfOk result (λ placed. LogsPush self.now hand.old hand.new placed.place) }
+        ensures logs_refusal { IfErr result (LogsRefusal self.now 1 hand.old hand.new) }
     {
         // For the proof: the hand keeps its places, and owns the one that it gains.
         self.laws();
@@ -106,13 +107,22 @@ impl<T: Drop> Shared<T> {
             return Err(GrowError::Full { size, back: value });
         }
         let (segment, offset) = self.table.layout().locate(from);
-        let Ok(key) = key_for(&self.table, &mut hand.keys, segment) else {
+        let Ok(key) = self.key_for(&mut hand.claims, &mut hand.keys, segment) else {
             self.word.log_no_memory(&mut hand.claims);
             return Err(GrowError::NoMemory { back: value });
         };
-        let block = self.table.known(&key);
+        let block = self.known_block(&key);
+        let laid = self.is_laid(segment);
         match self.word.exchange_as::<Brand>(&mut hand.claims, from, 1) {
-            Ok(_run) => match self.fill_cell(block, key, offset, value) {
+            Ok(_run) => match self.fill_cell(
+                &mut hand.claims,
+                block,
+                key,
+                from,
+                offset,
+                laid,
+                value,
+            ) {
                 Ok(placed) => Ok(placed),
                 Err(found) => Err(GrowError::Taken { place: from, found }),
             },
@@ -135,9 +145,9 @@ impl<T: Drop> Shared<T> {
         ensures refused { IfErr result (Refuses self.now 1 value hand.old hand.new) }
         ensures full { HasNoRoom self.now 1 hand.old → IsErrAnd result SaysFull }
         ensures not_moved { IfErr result IsNotMoved }
-        // The history gets the claim of the place, or the event whose reply the refusal is.
-        ensures logs { IfOk result (λ placed. LogsRun hand.old hand.new (single placed.place)) }
-        ensures logs_refusal { IfErr result (LogsRefusal 1 hand.old hand.new) }
+        // The history gets the claim of the place and its fill, or the event whose reply the refusal is.
+        ensures logs { IfOk result (λ placed. LogsPush self.now hand.old hand.new placed.place) }
+        ensures logs_refusal { IfErr result (LogsRefusal self.now 1 hand.old hand.new) }
     {
         for _try in rt.forever() {
             let from = hand.seen();

@@ -1,9 +1,15 @@
 //! How the vector is read.
-ghost use Rattle.std.specs.Prelude.{◌≡◌, ◌<◌, [], ◌∷◌, IfOk, IfErr, IfSome, IsOkAnd, IsSomeAnd, None};
+ghost use Rattle.std.specs.Prelude.{◌≡◌, ℕ, ◌<◌, [], ◌∷◌, IfOk, IfErr, IfSome, IsOk, IsOkAnd, IsSome, IsSomeAnd, None};
 ghost use Rattle.claim_core.specs.Hand.{seen_size};
-ghost use Rattle.grow_core.specs.Vector.{IsHandOf, IsPlacedOf, IsOpenedAt, SeesMore, base_of, limit_of};
+ghost use Rattle.cell_core.specs.Block.{block_len};
+ghost use Rattle.cell_core.specs.Shown.{IsLookAt};
+ghost use Rattle.table_core.specs.Table.{IsBlockOf, IsKeyIn};
+ghost use Rattle.grow_core.specs.Token.{place_in};
+ghost use Rattle.grow_core.specs.Vector.{IsHandOf, IsLaid, IsPlacedOf, IsOpenedAt, SeesMore, base_of, layout_of, limit_of};
 ghost use Rattle.grow_core.specs.Read.{IsAt, IsShownAt, ShowsValue, IsDueAt, IsInRange};
-ghost use Rattle.grow_core.specs.Logs.{LogsNothing, LogsAtRefusal};
+ghost use Rattle.grow_core.specs.Logs.{LogsNothing, LogsAtRefusal, LogsRead, IsFinishedIn};
+ghost use Rattle.grow_core.specs.Shown.{LogsShown, look_steps, shown_steps};
+ghost use Rattle.grow_core.specs.Steps.{FindsMore};
 
 use crate::blocks::{cell_of, find_cell};
 use crate::errors::AtError;
@@ -11,7 +17,9 @@ use crate::hand::Hand;
 use crate::token::{Placed, Spoilt};
 use crate::vector::Shared;
 use cell_core::block::{Look, Member, Row};
+use claim_core::laws;
 use seg_core::laws::places;
+use table_core::Key;
 
 /// The value at a place, and the token that shows it.
 #[derive(Debug, Drop)]
@@ -58,17 +66,27 @@ impl<T> Shared<T> {
         // The history gets the look at a place that is not below the size.
         ensures logs { IfOk result (λ _. LogsNothing hand.old hand.new) }
         ensures logs_refusal { IfErr result (LogsAtRefusal place hand.old hand.new) }
+        // A read with a token adds nothing. One without adds its look, with what it returned.
+        ensures token { IsSome known.entry → hand.new ≡ hand.old }
+        ensures looks { known.entry ≡ None → LogsRead self.now place hand.old hand.new result }
+        // A caller that has seen the place filled in the history finds it filled.
+        ensures finished { IsFinishedIn hand.old.log place → IsLaid self.now place → IsOk result }
     {
         if let Some(token) = known {
             return Ok(self.at_token(token));
         }
+        // For the proof: a place that a history fills stays so.
+        laws::finished_places_are_found();
         let size = self.size_seen(hand, place);
         if place >= size {
+            // For the proof: the hand's history is a legal one.
+            hand.laws();
             return Err(AtError::OutOfRange { size });
         }
-        // For the proof: the size is within the limit.
+        let shown = self.look_for(hand, place);
+        // For the proof: the same.
         hand.laws();
-        match self.look_within(place) {
+        match shown {
             Shown::Pending => Err(AtError::Pending),
             Shown::Filled(at) => Ok(at),
             Shown::Broken(spoilt) => Err(AtError::Broken(spoilt)),
@@ -87,6 +105,78 @@ impl<T> Shared<T> {
         At {
             value: self.get(token),
             placed: token.again(),
+        }
+    }
+
+    // Looks at a place that the hand has seen claimed. The look is logged, if the place's segment was laid since the
+    // opening.
+    #[inline(always)]
+    fn look_for<'a>(&'a self, hand: &mut Hand<T>, place: u64) -> Shown<'a, T>
+        requires ours { IsHandOf self.now hand.old }
+        requires seen { place < seen_size hand.old }
+        ensures shown { IsShownAt self.now place result }
+        ensures opened { (x : T) → IsOpenedAt self.now place x → ShowsValue x result }
+        ensures finds { FindsMore hand.old hand.new }
+        ensures logs { LogsShown self.now place hand.old hand.new result }
+    {
+        // For the proof: the opened list lies in segments that it brought, and the size is within the limit.
+        self.laws();
+        hand.laws();
+        let layout = self.layout();
+        let (segment, offset) = layout.locate(place);
+        if !self.is_laid(segment) {
+            return self.look_in_opened(place);
+        }
+        let Some((block, key)) = self.scout_tied(&mut hand.claims, segment, place) else {
+            return Shown::Pending;
+        };
+        let look = self.look_tied(&mut hand.claims, block, &key, place, offset);
+        self.shown_in(key, look)
+    }
+
+    // What a place of the opened list's segments shows. Only calls that come here clear the room for a result.
+    #[inline(always)]
+    fn look_in_opened(&self, place: u64) -> Shown<'_, T>
+        requires { place < limit_of self.now }
+        ensures shown { IsShownAt self.now place result }
+        ensures opened { (x : T) → IsOpenedAt self.now place x → ShowsValue x result }
+    {
+        match self.look_far(place) {
+            Shown::Pending => Shown::Pending,
+            Shown::Filled(at) => Shown::Filled(at),
+            Shown::Broken(spoilt) => Shown::Broken(spoilt),
+        }
+    }
+
+    // The same, by a call.
+    #[cold]
+    #[inline(never)]
+    fn look_far(&self, place: u64) -> Shown<'_, T>
+        requires { place < limit_of self.now }
+        ensures shown { IsShownAt self.now place result }
+        ensures opened { (x : T) → IsOpenedAt self.now place x → ShowsValue x result }
+    {
+        self.look_within(place)
+    }
+
+    // What a cell of the segment with this key showed.
+    #[inline(always)]
+    #[tactic(auto, using(crate::proofs::Cells::small_cell))]
+    fn shown_in<'a>(&self, key: Key, look: Look<'a, T>) -> Shown<'a, T>
+        requires key { IsKeyIn self.now.segments key }
+        requires long { IsBlockOf (layout_of self.now) key.segment key.block }
+        requires look { (offset : ℕ) × (offset < block_len key.block) × IsLookAt key.block offset look }
+        ensures shown { (offset : ℕ) → offset < block_len key.block → IsLookAt key.block offset look.entry
+            → IsShownAt self.now (place_in (layout_of self.now) key.segment offset) result }
+        ensures steps { (place : ℕ) → shown_steps place result ≡ look_steps place look.entry }
+    {
+        match look {
+            Look::Empty | Look::Busy => Shown::Pending,
+            Look::Filled(value, cell) => Shown::Filled(At {
+                value,
+                placed: Placed { key, cell },
+            }),
+            Look::Broken(cell) => Shown::Broken(Spoilt { key, cell }),
         }
     }
 
@@ -222,14 +312,8 @@ impl<T> Shared<T> {
         let Some((block, key)) = self.table.scout_key(segment) else {
             return Shown::Pending;
         };
-        match block.look_alone(offset) {
-            Look::Empty | Look::Busy => Shown::Pending,
-            Look::Filled(value, cell) => Shown::Filled(At {
-                value,
-                placed: Placed { key, cell },
-            }),
-            Look::Broken(cell) => Shown::Broken(Spoilt { key, cell }),
-        }
+        // It runs no offer, so no history gets it: the caller has no hand.
+        self.shown_in(key, block.look_alone(offset))
     }
 
     /// Returns the token's value, by one load of the entry of its segment. It looks at no state, since the token says

@@ -1,11 +1,9 @@
 //! Room for growths to come.
-ghost use Rattle.std.specs.Prelude.{◌≡◌, ◌<◌, ◌↔◌, IfOk, IsErrOf};
-ghost use Rattle.grow_core.specs.Vector.{IsHandOf, limit_of, layout_of};
-ghost use Rattle.grow_core.specs.Keys.{AreKeys, HasKeysOfRun, KeepsKeys, mark_of};
+ghost use Rattle.std.specs.Prelude.{◌≡◌, ◌<◌, ◌↔◌, IsErrOf};
+ghost use Rattle.grow_core.specs.Vector.{IsHandOf, limit_of};
 
 use crate::errors::ReserveError;
 use crate::hand::Hand;
-use crate::keys::{Keys, install};
 use crate::vector::Shared;
 
 impl<T: Drop> Shared<T> {
@@ -20,19 +18,6 @@ impl<T: Drop> Shared<T> {
         // It logs nothing, and the hand has seen what it had seen.
         ensures hand { hand.new ≡ hand.old }
     {
-        // For the proof: reading a field shows the type's invariant.
-        let _table = &self.table;
-        self.keep_keys(&mut hand.keys, n)
-    }
-
-    // Installs the segments of the first `n` places unless they are there, and puts their keys into the row.
-    fn keep_keys(&self, keys: &mut Keys, n: u64) -> Result<(), ReserveError>
-        requires keys { AreKeys (mark_of self.now.segments) keys.old }
-        ensures too_long { IsErrOf result ReserveError.TooLong ↔ (limit_of self.now < n) }
-        ensures keys { AreKeys (mark_of self.now.segments) keys.new }
-        ensures kept { KeepsKeys keys.old keys.new }
-        ensures all { IfOk result (λ _. HasKeysOfRun (layout_of self.now) keys.new 0 n) }
-    {
         // For the proof: the limit is that of a vector.
         self.laws();
         if self.limit() < n {
@@ -41,7 +26,7 @@ impl<T: Drop> Shared<T> {
         if n == 0 {
             return Ok(());
         }
-        match install(&self.table, keys, 0, n) {
+        match self.install_first(&mut hand.claims, n) {
             Ok(()) => Ok(()),
             Err(_) => Err(ReserveError::NoMemory),
         }

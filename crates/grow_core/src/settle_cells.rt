@@ -2,6 +2,7 @@
 ghost use Rattle.std.specs.Prelude.{◌≡◌, ◌≢◌, ◌+◌, ◌<◌, ◌≤◌, ℕ, Some, None, MatchOption, IfSome, length, slice_get};
 ghost use Rattle.seg_core.specs.Segment.{most_places};
 ghost use Rattle.cell_core.specs.Block.{block_len, cell_at, AreFilledFrom, IsMemberAt, KeepsOtherCells};
+ghost use Rattle.cell_core.specs.Fixed.{HasValueByStage};
 ghost use Rattle.cell_core.specs.Member.{MemberView};
 ghost use Rattle.grow_core.specs.Parts.{IsBrokenIn, broken_count, one_if_broken, values_in};
 ghost use Rattle.grow_core.specs.Closing.{AreSettled, KeepsKnown, KeepsKnownFrom};
@@ -24,6 +25,7 @@ fn settle<T>(
     ensures member { IsMemberAt block.new offset result }
     ensures name { result.name ≡ (cell_at block.old offset).value_name }
     ensures kept { IfSome known.now (λ k. k.value ≢ None → result.value ≡ k.value) }
+    ensures stage { HasValueByStage (cell_at block.old offset) result.value }
     ensures broken { IsBrokenIn epoch.now result }
     ensures plain { StayPlain block.old block.new }
     ensures len { block_len block.new ≡ block_len block.old }

@@ -8,7 +8,7 @@ ghost use Rattle.grow_core.specs.Vector.{IsPlacedOf};
 
 use crate::token::Placed;
 use crate::vector::Shared;
-use cell_core::block::{Member, Row, RunPen};
+use cell_core::block::{Kind, Member, Row, RunPen};
 use std::vec::IntoIter;
 use table_core::Key;
 
@@ -19,6 +19,33 @@ pub(crate) struct Stretch<T> {
     pub(crate) offset: u64,
     pub(crate) n: u64,
     pub(crate) row: Row<T>,
+}
+
+// Writes the next `n` values into the cells of the run, and returns the values that are left.
+#[inline(always)]
+pub(crate) fn write_values<'a, T: Drop, B: Kind>(
+    pen: RunPen<'a, T, B>,
+    n: u64,
+    values: IntoIter<T>,
+) -> (RunPen<'a, T, B>, IntoIter<T>)
+    requires cells { length pen.cells ≡ n }
+    requires unwritten { pen.values ≡ [] }
+    requires enough { n ≤ into_iter_len values }
+    requires counted { IsCounted values }
+    ensures run { (result.0.offset ≡ pen.entry.offset) × (result.0.cells ≡ pen.entry.cells) }
+    ensures written { (length result.0.values ≡ n)
+        × (into_iter_items values ≡ result.0.values ++ into_iter_items result.1) }
+    ensures counted { IsCounted result.1 }
+{
+    let mut pen = pen;
+    let mut left = values;
+    for _ in 0..n {
+        match left.next() {
+            Some(value) => pen = pen.write(value),
+            None => unreachable!(),
+        }
+    }
+    (pen, left)
 }
 
 // Writes the next `n` values into the cells of the run, publishes them by one step, and returns the values that are
@@ -37,14 +64,7 @@ pub(crate) fn publish<T: Drop>(
         × (into_iter_items values ≡ xs ++ into_iter_items result.1) }
     ensures counted { IsCounted result.1 }
 {
-    let mut pen = pen;
-    let mut left = values;
-    for _ in 0..n {
-        match left.next() {
-            Some(value) => pen = pen.write(value),
-            None => unreachable!(),
-        }
-    }
+    let (pen, left) = write_values(pen, n, values);
     (pen.publish(), left)
 }
 

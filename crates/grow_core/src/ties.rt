@@ -1,9 +1,9 @@
-// The types of a vector's segments and of a list's. Their entries and cells may be tied by their type; none is yet.
+// The types of a vector's segments, whose entries and cells may be tied to its claim word.
 use cell_core::block::{Block, Tied};
 use std::alloc::Global;
 use table_core::Table;
 
-// The segments of a vector, or of a list.
+// The segments of a vector, or of a list. The entries and the cells of a list are not tied.
 pub(crate) type SegmentTable<T> = Table<T, Tied>;
 
 // The cells of a segment.

@@ -1,16 +1,20 @@
 //! The vector, and how its size is looked at.
-ghost use Rattle.std.specs.Prelude.{◌≡◌, ◌≤◌, [], ◌∷◌, length};
+ghost use Rattle.std.specs.Prelude.{◌≡◌, ◌<◌, ◌≤◌, ℕ, None, [], ◌∷◌, length};
 ghost use Rattle.claim_core.specs.Word.{AreBounds};
 ghost use Rattle.claim_core.specs.Hand.{IsWholeHand, SeesSize, seen_size};
 ghost use Rattle.claim_core.specs.History.{AddsEvents, size_event};
-ghost use Rattle.grow_core.specs.Parts.{values_in};
-ghost use Rattle.grow_core.specs.Vector.{IsHandOf, IsShared, BeginsAsOpened, limit_of, layout_of, base_of};
+ghost use Rattle.seg_core.specs.Segment.{most_segments, segment_count, segment_start};
+ghost use Rattle.grow_core.specs.Closing.{AreKnownFrom, IsTakenBy};
+ghost use Rattle.grow_core.specs.Keys.{AreKeys, key_at, mark_of};
+ghost use Rattle.grow_core.specs.Parts.{AreLong, HasFirstKeys};
+ghost use Rattle.grow_core.specs.Steps.{FindsMore};
+ghost use Rattle.grow_core.specs.Vector.{IsHandOf, BeginsAsOpened, vector_of, limit_of, layout_of, base_of};
 
 use crate::hand::Hand;
 use crate::keys::Keys;
 use crate::ties::SegmentTable;
 use cell_core::block::{EndedEpoch, Row};
-use claim_core::{Word, laws};
+use claim_core::{CellTag, RowTags, Word, laws};
 use seg_core::Layout;
 use std::alloc::Global;
 use std::fmt;
@@ -28,9 +32,13 @@ pub struct Shared<T> {
     // The epoch of the list has ended: its broken members may be mended.
     pub(crate) ended: EndedEpoch,
     pub(crate) alloc: Global,
+    // How the cells of the later segments are tied, and their entries, in order. Neither has bytes.
+    pub(crate) cells: CellTag,
+    pub(crate) tags: RowTags,
 }
 
 impl<T> Model for Shared<T> {
+    ghost use Rattle.seg_core.specs.Segment.{segment_start};
     ghost use Rattle.grow_core.specs.Parts.{values_in};
     ghost use Rattle.grow_core.specs.Vector.{VectorView, vector_coded, IsShared};
 
@@ -38,9 +46,14 @@ impl<T> Model for Shared<T> {
 
     ghost coded = { vector_coded T.code };
 
-    ghost view = { λ v. record { word = v.word; segments = v.table; opened = values_in v.row } };
+    ghost view = { λ v. record {
+      word = v.word;
+      segments = v.table;
+      opened = values_in v.row;
+      laid = segment_start v.table.layout v.count;
+    } };
 
-    ghost invariant = { λ v. IsShared v.word v.table v.keys v.row v.ended v.count };
+    ghost invariant = { λ v. IsShared v.word v.table v.keys v.row v.ended v.count v.cells.tie v.tags };
 }
 
 // By hand, so that proofs of callers do not go into its fields.
@@ -54,30 +67,55 @@ impl<T: Drop> Drop for Shared<T> {
             row: _,
             ended: _,
             alloc: _,
+            cells: _,
+            tags: _,
         } = self;
     }
 }
 
 impl<T> Shared<T> {
-    // Takes the vector apart: its word, its segments, and what is known of the opened list.
-    pub(crate) fn take_apart(self) -> (Word<Global>, SegmentTable<T>, Keys, u32, Row<T>, EndedEpoch)
-        ensures parts { self ≡ record {
-          word = result.0;
-          segments = result.1;
-          opened = values_in result.4;
-        } }
-        ensures its { IsShared result.0 result.1 result.2 result.4 result.5 result.3 }
+    // Takes the vector apart for a close. The hand finds the keys of the first segments, with all places. Returns the word,
+    // the segments, how many of them the opened list brought, what is known of that list, and how later cells are tied;
+    // then the keys, and how many there are.
+    pub(crate) fn take_apart_by(
+        self,
+        hand: &mut Hand<T>,
+    ) -> (
+        Word<Global>,
+        SegmentTable<T>,
+        u32,
+        Row<T>,
+        CellTag,
+        Keys,
+        u32,
+    )
+        requires ours { IsHandOf self hand.old }
+        requires whole { IsWholeHand hand.old }
+        ensures parts { self ≡ vector_of result.0 result.1 result.3 result.2 }
+        ensures its { IsTakenBy result.0 result.1 result.3 result.2 result.4.tie result.5 result.6 }
+        ensures named { AreKeys (mark_of result.1) result.5 }
+        ensures long { AreLong (layout_of self) result.5 }
+        ensures there { HasFirstKeys result.5 result.6 }
+        ensures few { result.6 ≤ segment_count (layout_of self) }
+        ensures none { (s : ℕ) → s < most_segments → result.6 ≤ s → key_at result.5 s ≡ None }
+        ensures all { seen_size hand.old ≤ segment_start (layout_of self) result.6 }
+        ensures rows { AreKnownFrom 0 self.segments self.laid hand.new result.5 }
+        ensures finds { FindsMore hand.old hand.new }
+        ensures log { hand.new.log ≡ hand.old.log }
     {
+        let (before, n) = self.first_keys(&self.keys, hand);
         let Shared {
             word,
             table,
-            keys,
+            keys: _,
             count,
             row,
-            ended,
+            ended: _,
             alloc: _,
+            cells,
+            tags: _,
         } = self;
-        (word, table, keys, count, row, ended)
+        (word, table, count, row, cells, before, n)
     }
 }
 
@@ -110,6 +148,8 @@ impl<T> Shared<T> {
     pub fn laws(&self)
         ensures bounds { AreBounds (limit_of self.now) (base_of self.now) }
         ensures opened { length self.now.opened ≡ base_of self.now }
+        // The list lies in segments that it brought.
+        ensures laid { base_of self.now ≤ self.now.laid }
         // In the history a value is named by its place.
         ensures first { BeginsAsOpened self.now }
     {

@@ -2,7 +2,7 @@
 ghost use Rattle.std.specs.Prelude.{◌≡◌, ◌<◌, Some, length, slice_get, IsOk, IfOk, IfErr, OnErr};
 ghost use Rattle.claim_core.specs.Hand.{IsWholeHand, IsNewHand, seen_size};
 ghost use Rattle.grow_core.specs.Vector.{IsHandOf, limit_of, layout_of, base_of};
-ghost use Rattle.grow_core.specs.Closing.{IsClosedFrom, IsOfClosed, KeepsValues};
+ghost use Rattle.grow_core.specs.Closing.{IsClosedFrom, IsListOfHistory, IsOfClosed, KeepsValues};
 
 use crate::quiet::Quiet;
 use grow_core::{Hand, OpenError, Placed, Shared};
@@ -16,6 +16,8 @@ impl<T> Quiet<T> {
         ensures limit { IfOk result (λ (vector, _). limit_of vector ≡ self.limit) }
         ensures layout { IfOk result (λ (vector, _). layout_of vector ≡ self.layout) }
         ensures base { IfOk result (λ (vector, _). base_of vector ≡ length self.members) }
+        // The history tells what is done at a place if its segment is laid after this.
+        ensures laid { IfOk result (λ (vector, _). vector.laid ≡ self.capacity) }
         ensures hand { IfOk result (λ (vector, hand). IsNewHand vector.word hand) }
         ensures back { IfErr result (λ (back, _). back ≡ self) }
         ensures no_memory { IfErr result (λ (_, error). error ≡ OpenError.NoMemory) }
@@ -53,6 +55,8 @@ impl<T: Drop> Quiet<T> {
         ensures layout { result.layout ≡ layout_of vector }
         ensures opened { KeepsValues vector.opened result.members }
         ensures closed { IsClosedFrom vector result.closed }
+        // It is the list of the history, where pending places are broken.
+        ensures history { IsListOfHistory vector hand.log result.members }
     {
         Quiet {
             parts: vector.into_parts(hand),
@@ -67,6 +71,7 @@ impl<T: Drop> Quiet<T> {
         ensures layout { IfOk result (λ list. list.layout ≡ layout_of vector) }
         ensures opened { IfOk result (λ list. KeepsValues vector.opened list.members) }
         ensures closed { IfOk result (λ list. IsClosedFrom vector list.closed) }
+        ensures history { IfOk result (λ list. IsListOfHistory vector hand.log list.members) }
         ensures whole { IsWholeHand hand → IsOk result }
         ensures refused { OnErr result (¬ IsWholeHand hand) }
         ensures back { IfErr result (λ (same, own). (same ≡ vector) × (own ≡ hand)) }

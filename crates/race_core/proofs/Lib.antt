@@ -1,3 +1,4 @@
 mod Wins
 mod Teams
 mod AllTeams
+mod WinLogs

@@ -9,6 +9,7 @@ use Rattle.claim_core.specs.Word.{WordView}
 use Rattle.claim_core.specs.Hand.{HandView, SeesRun, own_places}
 use Rattle.grow_core.specs.Vector.{VectorView, IsHandOf}
 use Rattle.grow_core.specs.Growth.{single, IsDue}
+use Rattle.grow_core.specs.Logs.{LogsNothing, LogsPush}
 use Rattle.grow_core.specs.declared.errors.GrowError.{GrowError}
 use Rattle.grow_core.specs.declared.errors.GrowError.TheVariants as grows
 use Rattle.grow_core.specs.declared.errors.Never.{Never}
@@ -95,6 +96,15 @@ pub record IsTeam (word : WordView) (shares from to : ℕ) (team : Team) : Type 
 -- the values of this worker were appended, by a hand with one share
 abbrev pub IsTeamOf : WordView → ℕ → ℕ → Team → Type 0
 IsTeamOf word each worker = IsTeam word 1 (worker * each) ((worker + 1) * each)
+
+-- the history gets the claim and the fill of each win's place, in order
+abbrev pub LogsWins : VectorView ℕ → HandView → HandView → List Win → Type 0
+LogsWins vector old new [] = LogsNothing old new
+LogsWins vector old new (win ∷ wins) = (mid : HandView) × LogsPush vector old mid win.place × LogsWins vector mid new wins
+
+-- these wins come behind the others, and the history gets theirs
+abbrev pub LogsMoreWins : VectorView ℕ → HandView → HandView → List Win → List Win → Type 0
+LogsMoreWins vector old new before after = (won : List Win) × (after ≡ before ++ won) × LogsWins vector old new won
 
 -- what a race reports of a range of workers that has no result
 abbrev pub race_refusal : Refusal RaceError → RaceError

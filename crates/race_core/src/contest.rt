@@ -4,7 +4,7 @@ ghost use Rattle.claim_core.specs.Hand.{IsNewHand, SeesOwn};
 ghost use Rattle.claim_core.specs.Shares.{all_shares};
 ghost use Rattle.span_core.specs.Hands.{KeepsShares};
 ghost use Rattle.span_core.specs.Workers.{MayRefuseOne};
-ghost use Rattle.race_core.specs.Race.{sum_below, IsBadSize, IsGrowth, IsTeam, IsTeamOf, IsUnusedHand, IsWorkers, AreFew, team_of};
+ghost use Rattle.race_core.specs.Race.{sum_below, IsBadSize, IsGrowth, IsTeam, IsTeamOf, IsUnusedHand, IsWorkers, AreFew, LogsWins, team_of};
 
 use crate::refusal::RaceError;
 use crate::report::{RaceReport, report_of};
@@ -62,6 +62,7 @@ fn win_all<R: Threads + Wait + Sync, G: Gate + Sync>(
         ensures own { SeesOwn hand.new }
         ensures answer { IfOk result
             (λ wins. IsTeamOf vector.entry.now.word each worker (team_of hand.new wins.items)) }
+        ensures logs { IfOk result (λ wins. LogsWins vector.entry.now hand.old hand.new wins.items) }
         ensures refused { IfErr result IsWorkers }
     { append_each(rt, alloc, gate, vector, worker, each, hand) };
     let teams = with_hands(rt, alloc, vector, hand, workers, &work, gate)?;

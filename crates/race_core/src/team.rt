@@ -1,7 +1,7 @@
 //! The wins of several workers together.
 ghost use Rattle.std.specs.Prelude.{◌≡◌, ℕ, ◌+◌, ◌≤◌, [], IfErr, OnOk};
 ghost use Rattle.grow_core.specs.Vector.{IsHandOf};
-ghost use Rattle.race_core.specs.Race.{IsWorkers, IsPushRefusal, IsTeam, team_of};
+ghost use Rattle.race_core.specs.Race.{IsWorkers, IsPushRefusal, IsTeam, LogsMoreWins, team_of};
 
 use crate::refusal::{RaceError, race_error_of};
 use grow_core::{Hand, Shared, laws};
@@ -20,8 +20,9 @@ pub(crate) struct Win {
 // Nothing is won yet.
 pub(crate) fn begin_wins(alloc: Global, hand: &Hand<u64>) -> Vec<Win>
     requires { hand.now.mine ≡ [] }
-    ensures { (from : ℕ) → IsTeam hand.now.of hand.now.shares from from
+    ensures team { (from : ℕ) → IsTeam hand.now.of hand.now.shares from from
         (team_of hand.now result.items) }
+    ensures none { result.items ≡ [] }
 {
     // For the proof: the promise speaks of the hand.
     let _hand = hand;
@@ -46,6 +47,9 @@ fn push_value<R: Wait>(
         → IsTeam vector.now.word shares from value (team_of hand.old wins.old.items)
         → OnOk result
         (IsTeam vector.now.word shares from (value + 1) (team_of hand.new wins.new.items)) }
+    // The history gets the claim and the fill of the win's place.
+    ensures logs { OnOk result
+        (LogsMoreWins vector.now hand.old hand.new wins.old.items wins.new.items) }
 {
     // For the proof: the new place is the last of those that the hand knows, and its others stay.
     hand.laws();
@@ -88,6 +92,9 @@ pub(crate) fn push_all<R: Wait, G: Gate>(
     ensures team { (shares : ℕ)
         → IsTeam vector.now.word shares from from (team_of hand.old wins.old.items)
         → OnOk result (IsTeam vector.now.word shares from to (team_of hand.new wins.new.items)) }
+    // The history gets the claims and the fills of the wins' places, in order.
+    ensures logs { OnOk result
+        (LogsMoreWins vector.now hand.old hand.new wins.old.items wins.new.items) }
 {
     // For the proof: the condition speaks of the gate.
     let _gate = gate;

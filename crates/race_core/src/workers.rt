@@ -2,7 +2,7 @@
 ghost use Rattle.std.specs.Prelude.{◌≡◌, ◌+◌, IfOk, IfErr};
 ghost use Rattle.std.specs.List.{flat_map};
 ghost use Rattle.claim_core.specs.Hand.{SeesOwn};
-ghost use Rattle.race_core.specs.Race.{IsTeamOf, IsUnusedHand, IsWorkers, AreFew, team_of};
+ghost use Rattle.race_core.specs.Race.{IsTeamOf, IsUnusedHand, IsWorkers, AreFew, LogsWins, team_of};
 
 use crate::refusal::RaceError;
 use crate::team::{Win, begin_wins, push_all};
@@ -32,6 +32,8 @@ pub(crate) fn append_each<R: Wait, G: Gate>(
     ensures own { SeesOwn hand.new }
     ensures answer { IfOk result
         (λ wins. IsTeamOf vector.now.word each worker (team_of hand.new wins.items)) }
+    // The history gets the claims and the fills of the wins' places, in order.
+    ensures logs { IfOk result (λ wins. LogsWins vector.now hand.old hand.new wins.items) }
     ensures refused { IfErr result IsWorkers }
 {
     let from = u64::from(worker) * each;

@@ -19,7 +19,7 @@ prefix_trans xs ys zs p q = (p.0 ++ q.0, sym (append_assoc xs p.0 q.0) ∙ (ap (
 
 -- each hand is part of itself
 pub part_self : (a : HandView) → IsWithinHand a a
-part_self a = record { of = refl; seen = ([], append-nil a.seen); mine = λ k own. own }
+part_self a = record { of = refl; seen = ([], append-nil a.seen); mine = λ k own. own; log = ([], append-nil a.log) }
 
 part_trans : (a b c : HandView) → IsWithinHand a b → IsWithinHand b c → IsWithinHand a c
 part_trans a b c p q =
@@ -27,16 +27,25 @@ part_trans a b c p q =
       of = p.of ∙ q.of;
       seen = prefix_trans a.seen b.seen c.seen p.seen q.seen;
       mine = λ k own. q.mine k (p.mine k own);
+      log = prefix_trans a.log b.log c.log p.log q.log;
     }
 
 -- two hands that were joined are parts of what they are now
-pub part_left : (a b c : HandView) → c.of ≡ a.of → IsPrefix a.seen c.seen → c.mine ≡ a.mine ++ b.mine → IsWithinHand a c
-part_left a b c of seen mine =
-    record { of = sym of; seen = seen; mine = λ k own. subst (λ m. Contains m k) (sym mine) (Contains-append_left a.mine b.mine k own) }
+pub part_left : (a b c : HandView) → c.of ≡ a.of → IsPrefix a.seen c.seen → IsPrefix a.log c.log → c.mine ≡ a.mine ++ b.mine → IsWithinHand a c
+part_left a b c of seen log mine = record {
+  of = sym of;
+  seen = seen;
+  mine = λ k own. subst (λ m. Contains m k) (sym mine) (Contains-append_left a.mine b.mine k own);
+  log = log;
+}
 
-pub part_right : (a b c : HandView) → c.of ≡ b.of → IsPrefix b.seen c.seen → c.mine ≡ a.mine ++ b.mine → IsWithinHand b c
-part_right a b c of seen mine =
-    record { of = sym of; seen = seen; mine = λ k own. subst (λ m. Contains m k) (sym mine) (Contains-append_right a.mine b.mine k own) }
+pub part_right : (a b c : HandView) → c.of ≡ b.of → IsPrefix b.seen c.seen → IsPrefix b.log c.log → c.mine ≡ a.mine ++ b.mine → IsWithinHand b c
+part_right a b c of seen log mine = record {
+  of = sym of;
+  seen = seen;
+  mine = λ k own. subst (λ m. Contains m k) (sym mine) (Contains-append_right a.mine b.mine k own);
+  log = log;
+}
 
 -- what is left of a hand is of its word, and owns the same
 pub rest_of : (old rest : HandView) (shares : ℕ) → rest ≡ record old { shares = shares } → rest.of ≡ old.of

@@ -1,9 +1,11 @@
 -- What calls leave of a writer's hand.
-use Rattle.std.proofs.Common.{ℕ, ◌+◌, [], ◌∷◌, ◌++◌, length, sym, ap, ◌∙◌, arith, append_assoc}
+use Rattle.std.proofs.Common.{◌≡◌, ℕ, suc, ◌+◌, [], ◌∷◌, ◌++◌, length, sym, ap, subst, ◌∙◌, arith, append_assoc}
 use mathlib.Core.List.{IsPrefix}
 use Rattle.claim_core.specs.Laws.{AddedPlacesAddUp}
 use Rattle.claim_core.specs.Hand.{HandView, AddsRun, SeesOwn, single}
-use Rattle.span_core.specs.Writer.{AddsPlaces}
+use Rattle.grow_core.specs.Vector.{VectorView}
+use Rattle.grow_core.specs.Logs.{LogsPush}
+use Rattle.span_core.specs.Writer.{AddsPlaces, LogsPushes}
 use Rattle.span_core.proofs.HandLemmas.{prefix_trans}
 
 -- one more place was won
@@ -18,3 +20,15 @@ adds_next law old mid new n place sees done next =
       mine = (index ∷ done.mine.0, next.mine ∙ ap (λ m. index ∷ m) done.mine.1, omega (arith, done.mine.2));
       places = (let added = law mid new (single place) sees next in let before = done.places in omega arith);
     }
+
+-- a push of the same vector
+pub push_in : {T : Type 0} → (v w : VectorView T) (old new : HandView) (place : ℕ) → v ≡ w → LogsPush v old new place
+    → LogsPush w old new place
+push_in v w old new place same push = subst (λ (x : VectorView _). LogsPush x old new place) same push
+
+-- one more push
+pub pushes_next : {T : Type 0} → (v : VectorView T) (old mid new : HandView) (n place : ℕ) → LogsPushes v old mid n
+    → AddsRun mid new (single place) → LogsPush v mid new place → LogsPushes v old new (n + 1)
+pushes_next v old mid new n place pushes won push =
+    let next : suc n ≡ n + 1 = omega arith in
+    subst (λ (k : ℕ). LogsPushes v old new k) next (mid, place, pushes, won, push)

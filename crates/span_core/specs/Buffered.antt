@@ -4,6 +4,7 @@ use base.Stored.{Coded, coded×, coded_ℕ, coded_list, coded_via}
 use Rattle.grow_core.specs.Vector.{SeesMore}
 use Rattle.grow_core.specs.Grown.{GrownView}
 use Rattle.grow_core.specs.Growth.{WonRun, Refuses}
+use Rattle.grow_core.specs.Logs.{AllFilled, LogsGrowth}
 use Rattle.grow_core.specs.declared.errors.GrowError.{GrowError}
 use Rattle.grow_core.specs.declared.errors.GrowError.TheVariants.{NoMemory, Taken}
 use Rattle.span_core.specs.Writer.{WriterView, writer_coded}
@@ -29,6 +30,11 @@ Pushes old new value None =
 Pushes old new value (Some grown) =
     (length old.buffered ≡ old.bound) × (new.buffered ≡ value ∷ [])
     × WonRun old.writer.vector old.buffered old.writer.hand new.writer.hand grown
+
+-- the history of the writer's hand gets the growth of what was flushed, or the hand is as it was
+abbrev pub LogsFlush : {T : Type 0} → WriterView T → WriterView T → Option (GrownView T) → Type 0
+LogsFlush old new None = new.hand ≡ old.hand
+LogsFlush old new (Some grown) = LogsGrowth old.vector AllFilled old.hand new.hand grown.run
 
 -- what a refused growth of buffered values leaves in the buffer: all of them, or nothing if a place was taken
 abbrev pub LeavesBuffer : {T V E : Type 0} → List T → List T → GrowError T V E → Type 0

@@ -58,6 +58,7 @@ pub record IsWithinHand (own all : HandView) : Type 0 where
   pub of : own.of ≡ all.of
   pub seen : IsPrefix own.seen all.seen
   pub mine : (k : ℕ) → Contains own.mine k → Contains all.mine k
+  pub log : IsPrefix own.log all.log
 
 -- a worker said so of a hand that is part of this one
 abbrev pub SaysOfPart : {X : Type 0} → (ℕ → HandView → X → Type 0) → HandView → ℕ → X → Type 0

@@ -1,12 +1,13 @@
 -- A vector and a hand of it, as one value.
-use Rattle.std.specs.Prelude.{◌≡◌, ℕ, ◌+◌, List, ◌++◌, Option, Some, None, length}
+use Rattle.std.specs.Prelude.{◌≡◌, ℕ, zero, suc, ◌+◌, List, ◌++◌, Option, Some, None, length}
 use Rattle.std.specs.Iterator.{Drains, YieldsThen}
 use mathlib.Core.List.{IsPrefix}
 use base.Stored.{Coded, coded×, coded_via}
 use Rattle.claim_core.specs.Word.{WordView}
-use Rattle.claim_core.specs.Hand.{HandView, hand_coded, own_places}
+use Rattle.claim_core.specs.Hand.{HandView, AddsRun, hand_coded, own_places, single}
 use Rattle.grow_core.specs.Vector.{VectorView, vector_coded}
 use Rattle.grow_core.specs.Growth.{Refuses}
+use Rattle.grow_core.specs.Logs.{LogsNothing, LogsPush, LogsRefusal}
 use Rattle.grow_core.specs.declared.errors.GrowError.{GrowError}
 
 -- the vector, and the hand of it
@@ -54,3 +55,16 @@ StopsAppending {S} {T} steps items vector old new stop =
     (values : List T) × (value : T) × (rest : S) × (between : HandView)
     × YieldsThen steps items values (Some value) rest × (length values ≡ stop.0)
     × AddsPlaces old between stop.0 × Refuses vector 1 value between new stop.1
+
+-- n pushes: the hand owns one more place after each, and the history gets its claim and its fill
+abbrev pub LogsPushes : {T : Type 0} → VectorView T → HandView → HandView → ℕ → Type 0
+LogsPushes vector old new zero = LogsNothing old new
+LogsPushes vector old new (suc n) =
+    (mid : HandView) × (place : ℕ) × LogsPushes vector old mid n × AddsRun mid new (single place)
+    × LogsPush vector mid new place
+
+-- n pushes, and then one that was refused
+abbrev pub StopsPushing : {T E : Type 0} → VectorView T → HandView → HandView → ℕ × GrowError T T E → Type 0
+StopsPushing {T} vector old new stop =
+    (between : HandView) × (value : T) × LogsPushes vector old between stop.0
+    × Refuses vector 1 value between new stop.1 × LogsRefusal vector 1 between new stop.1

@@ -1,9 +1,9 @@
 //! A writer that appends many values at once.
-ghost use Rattle.std.specs.Prelude.{◌≡◌, ◌<◌, ◌≤◌, [], IfOk, IfErr, OnOk, IsErrAnd, length, vec_len};
+ghost use Rattle.std.specs.Prelude.{◌≡◌, ◌<◌, ◌≤◌, [], IfOk, IfErr, OnOk, IsErrAnd, length, vec_len, ◌⊎◌};
 ghost use Rattle.grow_core.specs.Growth.{WonRun, Refuses, HasNoRoom, SaysFull, IsNotMoved};
-ghost use Rattle.grow_core.specs.Logs.{LogsGrowth, LogsRefusal};
+ghost use Rattle.grow_core.specs.Logs.{AllFilled, LogsGrowth, LogsRefusal};
 ghost use Rattle.span_core.specs.Writer.{with_hand};
-ghost use Rattle.span_core.specs.Buffered.{Pushes, LeavesBuffer, RefusesPush, IsOutOfMemory};
+ghost use Rattle.span_core.specs.Buffered.{Pushes, LeavesBuffer, RefusesPush, IsOutOfMemory, LogsFlush};
 
 use crate::tie::{Tie, Untied};
 use crate::writer::Writer;
@@ -115,10 +115,13 @@ impl<'a, T: Drop, B: Tie> BufferedWriter<'a, T, B> {
         ensures full { HasNoRoom self.old.writer.vector (length self.old.buffered)
             self.old.writer.hand → IsErrAnd result SaysFull }
         ensures not_moved { IfErr result IsNotMoved }
-        // The history gets the claim of the run, or the event whose reply the refusal is.
+        // The history gets the claim of the run and what became of its places, or the event whose reply the
+        // refusal is.
         ensures logs { IfOk result
-            (λ grown. LogsGrowth self.old.writer.hand self.new.writer.hand grown.run) }
-        ensures logs_refusal { IfErr result (LogsRefusal (length self.old.buffered)
+            (λ grown. LogsGrowth self.old.writer.vector AllFilled
+            self.old.writer.hand self.new.writer.hand grown.run) }
+        ensures logs_refusal { IfErr result
+            (LogsRefusal self.old.writer.vector (length self.old.buffered)
             self.old.writer.hand self.new.writer.hand) }
         ensures rest_kept { self.new ≡ record self.old {
           buffered = self.new.buffered;
@@ -147,6 +150,12 @@ impl<'a, T: Drop, B: Tie> BufferedWriter<'a, T, B> {
         ensures room { length self.old.buffered < self.old.bound
             → IfErr result (λ (error, _). IsOutOfMemory error) }
         ensures not_moved { IfErr result (λ (error, _). IsNotMoved error) }
+        // The history gets what a growth by the buffered values adds, or nothing if only the buffer was asked.
+        ensures logs { IfOk result (LogsFlush self.old.writer self.new.writer) }
+        ensures logs_refusal { IfErr result (λ (error, _).
+            (self.new.writer.hand ≡ self.old.writer.hand)
+            ⊎ LogsRefusal self.old.writer.vector (length self.old.buffered)
+            self.old.writer.hand self.new.writer.hand error) }
         ensures rest_kept { self.new ≡ record self.old {
           buffered = self.new.buffered;
           writer = with_hand self.old.writer self.new.writer.hand;
@@ -176,6 +185,12 @@ impl<'a, T: Drop, B: Tie> BufferedWriter<'a, T, B> {
         ensures room { length self.old.buffered < self.old.bound
             → IfErr result (λ (error, _). IsOutOfMemory error) }
         ensures not_moved { IfErr result (λ (error, _). IsNotMoved error) }
+        // The history gets what a growth by the buffered values adds, or nothing if only the buffer was asked.
+        ensures logs { IfOk result (LogsFlush self.old.writer self.new.writer) }
+        ensures logs_refusal { IfErr result (λ (error, _).
+            (self.new.writer.hand ≡ self.old.writer.hand)
+            ⊎ LogsRefusal self.old.writer.vector (length self.old.buffered)
+            self.old.writer.hand self.new.writer.hand error) }
         ensures rest_kept { self.new ≡ record self.old {
           buffered = self.new.buffered;
           writer = with_hand self.old.writer self.new.writer.hand;
@@ -221,9 +236,11 @@ fn append_all<T: Drop, B: Tie, R: Wait>(
     ensures full { HasNoRoom writer.old.vector (vec_len buffer.old) writer.old.hand
         → IsErrAnd result SaysFull }
     ensures not_moved { IfErr result IsNotMoved }
-    ensures logs { IfOk result (λ grown. LogsGrowth writer.old.hand writer.new.hand grown.run) }
+    ensures logs { IfOk result
+        (λ grown. LogsGrowth writer.old.vector AllFilled
+        writer.old.hand writer.new.hand grown.run) }
     ensures logs_refusal { IfErr result
-        (LogsRefusal (vec_len buffer.old) writer.old.hand writer.new.hand) }
+        (LogsRefusal writer.old.vector (vec_len buffer.old) writer.old.hand writer.new.hand) }
     ensures vector { writer.new.vector ≡ writer.old.vector }
 {
     let values = mem::replace(buffer, room);

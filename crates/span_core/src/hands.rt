@@ -192,6 +192,8 @@ pub fn with_hands<
     ensures of { hand.new.of ≡ hand.old.of }
     ensures shares { hand.new.shares ≡ hand.old.shares }
     ensures begins { IsPrefix hand.old.seen hand.new.seen }
+    // Its history goes on, and has that of each worker's hand.
+    ensures begins_log { IsPrefix hand.old.log hand.new.log }
     ensures mine { IsPrefix hand.old.mine hand.new.mine }
     ensures answers { IfOk result (λ answers. HaveAnswered
         (of_answer (Leaves (F.post work.now) vector.now)) hand.old hand.new workers answers.items) }

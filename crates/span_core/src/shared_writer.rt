@@ -1,13 +1,13 @@
 //! A vector with several owners and a hand of it, in one value.
-ghost use Rattle.std.specs.Prelude.{◌≡◌, ◌+◌, ◌-◌, ◌<◌, ◌≤◌, [], ◌∷◌, ◌++◌, ◌⊎◌, IfOk, IfErr, IfSome, IsOkAnd, OnOk, OnErr, None, length};
+ghost use Rattle.std.specs.Prelude.{◌≡◌, ◌+◌, ◌-◌, ◌<◌, ◌≤◌, [], ◌∷◌, ◌++◌, ◌⊎◌, IfOk, IfErr, IfSome, IsOkAnd, OnOk, OnErr, None, length, IsOk, IsSome};
 ghost use Rattle.std.specs.Arc.{arc_value};
 ghost use mathlib.Core.List.{IsPrefix};
 ghost use Rattle.seg_core.specs.Segment.{most_places};
 ghost use Rattle.claim_core.specs.Hand.{IsWholeHand, KeepsOwn, OwnApart, SeesSize, seen_size};
 ghost use Rattle.claim_core.specs.History.{AddsEvents, size_event};
-ghost use Rattle.grow_core.specs.Vector.{IsHandOf, IsOpenedAt, IsPlacedOf, SeesMore, base_of, limit_of, layout_of};
-ghost use Rattle.grow_core.specs.Closing.{KeepsValues, IsClosedFrom};
-ghost use Rattle.grow_core.specs.Logs.{LogsNothing, LogsAtRefusal};
+ghost use Rattle.grow_core.specs.Vector.{IsHandOf, IsOpenedAt, IsPlacedOf, SeesMore, base_of, limit_of, layout_of, IsLaid};
+ghost use Rattle.grow_core.specs.Closing.{KeepsValues, IsClosedFrom, IsListOfHistory};
+ghost use Rattle.grow_core.specs.Logs.{LogsNothing, LogsAtRefusal, LogsValue, LogsNoValue, IsFinishedIn};
 ghost use Rattle.grow_core.specs.Read.{IsShownAt, ShowsValue, IsDueAt, IsInRange};
 ghost use Rattle.span_core.specs.Hands.{split_off};
 
@@ -120,6 +120,15 @@ impl<T> SharedWriter<T> {
         // The history gets the look at a place that is not below the size.
         ensures logs { IfOk result (λ _. LogsNothing self.old.hand self.new.hand) }
         ensures logs_refusal { IfErr result (LogsAtRefusal place self.old.hand self.new.hand) }
+        // A read with a token adds nothing. One without adds its look, with what it returned.
+        ensures token { IsSome known.entry → self.new.hand ≡ self.old.hand }
+        ensures looks { known.entry ≡ None
+            → IfOk result (λ _. LogsValue self.old.vector place self.old.hand self.new.hand) }
+        ensures looks_refusal { known.entry ≡ None
+            → IfErr result (LogsNoValue self.old.vector place self.old.hand self.new.hand) }
+        // A caller that has seen the place filled in the history finds it filled.
+        ensures finished { IsFinishedIn self.old.hand.log place → IsLaid self.old.vector place
+            → IsOk result }
         ensures vector { self.new.vector ≡ self.old.vector }
     {
         let At { value: _, placed } = self.vector.at(&mut self.hand, place, known)?;
@@ -224,6 +233,9 @@ impl<T: Drop> SharedWriter<T> {
         ensures layout { IfOk result (λ list. list.layout ≡ layout_of self.vector) }
         ensures opened { IfOk result (λ list. KeepsValues self.vector.opened list.members) }
         ensures closed { IfOk result (λ list. IsClosedFrom self.vector list.closed) }
+        // It is the list of the history, where pending places are broken.
+        ensures history { IfOk result
+            (λ list. IsListOfHistory self.vector self.hand.log list.members) }
         ensures back { IfErr result (λ back. back ≡ self) }
     {
         let (vector, hand) = self.into_parts();

@@ -1,7 +1,7 @@
 //! How a writer that shares its vector appends copies, and places without values.
 ghost use Rattle.std.specs.Prelude.{◌≡◌, IfOk, IfErr, IsErrAnd, length, replicate};
 ghost use Rattle.grow_core.specs.Growth.{WonRun, WonPlaces, Refuses, HasNoRoom, SaysFull, IsNotMoved};
-ghost use Rattle.grow_core.specs.Logs.{LogsGrowth, LogsRefusal};
+ghost use Rattle.grow_core.specs.Logs.{AllBroken, AllFilled, LogsGrowth, LogsRefusal};
 
 use crate::shared_writer::SharedWriter;
 use grow_core::{GrowError, Grown, Never, Run, Source};
@@ -18,10 +18,12 @@ impl<T: Copy> SharedWriter<T> {
         // Room that is missing by what the hand has seen is reported before memory is asked for.
         ensures full { HasNoRoom self.old.vector (length values.now) self.old.hand
             → IsErrAnd result SaysFull }
-        // The history gets the claim of the run, or the event whose reply the refusal is.
-        ensures logs { IfOk result (λ grown. LogsGrowth self.old.hand self.new.hand grown.run) }
+        // The history gets the claim of the run and what became of its places, or the event whose reply the
+        // refusal is.
+        ensures logs { IfOk result
+            (λ grown. LogsGrowth self.old.vector AllFilled self.old.hand self.new.hand grown.run) }
         ensures logs_refusal { IfErr result
-            (LogsRefusal (length values.now) self.old.hand self.new.hand) }
+            (LogsRefusal self.old.vector (length values.now) self.old.hand self.new.hand) }
         ensures vector { self.new.vector ≡ self.old.vector }
     {
         self.vector.try_grow_from(&mut self.hand, values)
@@ -39,10 +41,12 @@ impl<T: Copy> SharedWriter<T> {
         ensures full { HasNoRoom self.old.vector (length values.now) self.old.hand
             → IsErrAnd result SaysFull }
         ensures not_moved { IfErr result IsNotMoved }
-        // The history gets the claim of the run, or the event whose reply the refusal is.
-        ensures logs { IfOk result (λ grown. LogsGrowth self.old.hand self.new.hand grown.run) }
+        // The history gets the claim of the run and what became of its places, or the event whose reply the
+        // refusal is.
+        ensures logs { IfOk result
+            (λ grown. LogsGrowth self.old.vector AllFilled self.old.hand self.new.hand grown.run) }
         ensures logs_refusal { IfErr result
-            (LogsRefusal (length values.now) self.old.hand self.new.hand) }
+            (LogsRefusal self.old.vector (length values.now) self.old.hand self.new.hand) }
         ensures vector { self.new.vector ≡ self.old.vector }
     {
         self.vector.grow_from(rt, &mut self.hand, values)
@@ -55,9 +59,12 @@ impl<T: Copy> SharedWriter<T> {
         ensures refused { IfErr result (Refuses self.old.vector n tt self.old.hand self.new.hand) }
         // Room that is missing by what the hand has seen is reported before memory is asked for.
         ensures full { HasNoRoom self.old.vector n self.old.hand → IsErrAnd result SaysFull }
-        // The history gets the claim of the run, or the event whose reply the refusal is.
-        ensures logs { IfOk result (λ grown. LogsGrowth self.old.hand self.new.hand grown.run) }
-        ensures logs_refusal { IfErr result (LogsRefusal n self.old.hand self.new.hand) }
+        // The history gets the claim of the run and what became of its places, or the event whose reply the
+        // refusal is.
+        ensures logs { IfOk result
+            (λ grown. LogsGrowth self.old.vector AllFilled self.old.hand self.new.hand grown.run) }
+        ensures logs_refusal { IfErr result
+            (LogsRefusal self.old.vector n self.old.hand self.new.hand) }
         ensures vector { self.new.vector ≡ self.old.vector }
     {
         self.vector.try_grow_copies(&mut self.hand, n, value)
@@ -75,9 +82,12 @@ impl<T: Copy> SharedWriter<T> {
         ensures refused { IfErr result (Refuses self.old.vector n tt self.old.hand self.new.hand) }
         ensures full { HasNoRoom self.old.vector n self.old.hand → IsErrAnd result SaysFull }
         ensures not_moved { IfErr result IsNotMoved }
-        // The history gets the claim of the run, or the event whose reply the refusal is.
-        ensures logs { IfOk result (λ grown. LogsGrowth self.old.hand self.new.hand grown.run) }
-        ensures logs_refusal { IfErr result (LogsRefusal n self.old.hand self.new.hand) }
+        // The history gets the claim of the run and what became of its places, or the event whose reply the
+        // refusal is.
+        ensures logs { IfOk result
+            (λ grown. LogsGrowth self.old.vector AllFilled self.old.hand self.new.hand grown.run) }
+        ensures logs_refusal { IfErr result
+            (LogsRefusal self.old.vector n self.old.hand self.new.hand) }
         ensures vector { self.new.vector ≡ self.old.vector }
     {
         self.vector.grow_copies(rt, &mut self.hand, n, value)
@@ -98,10 +108,12 @@ impl<T: Drop> SharedWriter<T> {
         // Room that is missing by what the hand has seen is reported before memory is asked for.
         ensures full { HasNoRoom self.old.vector (length (S.values source.now)) self.old.hand
             → IsErrAnd result SaysFull }
-        // The history gets the claim of the run, or the event whose reply the refusal is.
-        ensures logs { IfOk result (λ grown. LogsGrowth self.old.hand self.new.hand grown.run) }
+        // The history gets the claim of the run and what became of its places, or the event whose reply the
+        // refusal is.
+        ensures logs { IfOk result
+            (λ grown. LogsGrowth self.old.vector AllFilled self.old.hand self.new.hand grown.run) }
         ensures logs_refusal { IfErr result
-            (LogsRefusal (length (S.values source.now)) self.old.hand self.new.hand) }
+            (LogsRefusal self.old.vector (length (S.values source.now)) self.old.hand self.new.hand) }
         ensures vector { self.new.vector ≡ self.old.vector }
     {
         self.vector.try_grow_source(&mut self.hand, source)
@@ -115,9 +127,12 @@ impl<T: Drop> SharedWriter<T> {
         ensures refused { IfErr result (Refuses self.old.vector n tt self.old.hand self.new.hand) }
         // Room that is missing by what the hand has seen is reported before memory is asked for.
         ensures full { HasNoRoom self.old.vector n self.old.hand → IsErrAnd result SaysFull }
-        // The history gets the claim of the run, or the event whose reply the refusal is.
-        ensures logs { IfOk result (λ run. LogsGrowth self.old.hand self.new.hand run) }
-        ensures logs_refusal { IfErr result (LogsRefusal n self.old.hand self.new.hand) }
+        // The history gets the claim of the run and what became of its places, or the event whose reply the
+        // refusal is.
+        ensures logs { IfOk result
+            (λ run. LogsGrowth self.old.vector AllBroken self.old.hand self.new.hand run) }
+        ensures logs_refusal { IfErr result
+            (LogsRefusal self.old.vector n self.old.hand self.new.hand) }
         ensures vector { self.new.vector ≡ self.old.vector }
     {
         self.vector.try_break_run(&mut self.hand, n)
@@ -129,9 +144,12 @@ impl<T: Drop> SharedWriter<T> {
         ensures refused { IfErr result (Refuses self.old.vector n tt self.old.hand self.new.hand) }
         ensures full { HasNoRoom self.old.vector n self.old.hand → IsErrAnd result SaysFull }
         ensures not_moved { IfErr result IsNotMoved }
-        // The history gets the claim of the run, or the event whose reply the refusal is.
-        ensures logs { IfOk result (λ run. LogsGrowth self.old.hand self.new.hand run) }
-        ensures logs_refusal { IfErr result (LogsRefusal n self.old.hand self.new.hand) }
+        // The history gets the claim of the run and what became of its places, or the event whose reply the
+        // refusal is.
+        ensures logs { IfOk result
+            (λ run. LogsGrowth self.old.vector AllBroken self.old.hand self.new.hand run) }
+        ensures logs_refusal { IfErr result
+            (LogsRefusal self.old.vector n self.old.hand self.new.hand) }
         ensures vector { self.new.vector ≡ self.old.vector }
     {
         self.vector.break_run(rt, &mut self.hand, n)

@@ -2,12 +2,12 @@
 ghost use Rattle.std.specs.Prelude.{◌≡◌, ◌<◌, ◌≤◌, All, IfOk, IfErr, IsOkAnd, IsErrAnd, vec_len};
 ghost use Rattle.claim_core.specs.Hand.{seen_size};
 ghost use Rattle.cell_core.specs.Block.{IsMended};
-ghost use Rattle.grow_core.specs.Vector.{IsOpenedAt, IsPlacedOf, SeesMore, limit_of};
+ghost use Rattle.grow_core.specs.Vector.{IsOpenedAt, IsPlacedOf, SeesMore, limit_of, IsLaid};
 ghost use Rattle.grow_core.specs.Growth.{WonRun, WonPlaces, Refuses, HasNoRoom, SaysFull, IsNotMoved};
 ghost use Rattle.grow_core.specs.Making.{WonMade, WonClones, StopsAfter, IsRefusedBy};
 ghost use Rattle.grow_core.specs.AtLeast.{WonAtLeast, RefusesAtLeast, SaysEnough};
-ghost use Rattle.grow_core.specs.Logs.{LogsNothing, LogsGrowth, LogsRefusal, LogsAtLeast, LogsRefusalUpTo, LogsMendRefusal};
-ghost use Rattle.grow_core.specs.Mend.{IsMendDue, IsSeen, TellsValue};
+ghost use Rattle.grow_core.specs.Logs.{AllFilled, LogsAtLeast, LogsGrowth, LogsMendRefusal, LogsNothing, LogsRefusal, LogsRefusalUpTo, LogsMend, IsFinishedIn};
+ghost use Rattle.grow_core.specs.Mend.{IsMendDue, IsSeen, TellsValue, SaysFilled};
 
 use crate::shared_writer::SharedWriter;
 use grow_core::{AtLeast, GrowError, Grown, MendError, Never, Placed, Run};
@@ -24,10 +24,12 @@ impl<T: Drop> SharedWriter<T> {
         // Room that is missing by what the hand has seen is reported before memory is asked for.
         ensures full { HasNoRoom self.old.vector (vec_len values) self.old.hand
             → IsErrAnd result SaysFull }
-        // The history gets the claim of the run, or the event whose reply the refusal is.
-        ensures logs { IfOk result (λ grown. LogsGrowth self.old.hand self.new.hand grown.run) }
+        // The history gets the claim of the run and what became of its places, or the event whose reply the
+        // refusal is.
+        ensures logs { IfOk result
+            (λ grown. LogsGrowth self.old.vector AllFilled self.old.hand self.new.hand grown.run) }
         ensures logs_refusal { IfErr result
-            (LogsRefusal (vec_len values) self.old.hand self.new.hand) }
+            (LogsRefusal self.old.vector (vec_len values) self.old.hand self.new.hand) }
         ensures vector { self.new.vector ≡ self.old.vector }
     {
         self.vector.try_grow_vec(&mut self.hand, values)
@@ -47,10 +49,12 @@ impl<T: Drop> SharedWriter<T> {
         ensures full { HasNoRoom self.old.vector (vec_len values) self.old.hand
             → IsErrAnd result SaysFull }
         ensures not_moved { IfErr result IsNotMoved }
-        // The history gets the claim of the run, or the event whose reply the refusal is.
-        ensures logs { IfOk result (λ grown. LogsGrowth self.old.hand self.new.hand grown.run) }
+        // The history gets the claim of the run and what became of its places, or the event whose reply the
+        // refusal is.
+        ensures logs { IfOk result
+            (λ grown. LogsGrowth self.old.vector AllFilled self.old.hand self.new.hand grown.run) }
         ensures logs_refusal { IfErr result
-            (LogsRefusal (vec_len values) self.old.hand self.new.hand) }
+            (LogsRefusal self.old.vector (vec_len values) self.old.hand self.new.hand) }
         ensures vector { self.new.vector ≡ self.old.vector }
     {
         self.vector.grow_vec(rt, &mut self.hand, values)
@@ -69,10 +73,12 @@ impl<T: Drop> SharedWriter<T> {
         ensures full { HasNoRoom self.old.vector (vec_len values) self.old.hand
             → IsErrAnd result SaysFull }
         ensures not_moved { IfErr result IsNotMoved }
-        // The history gets the claim of the run, or the event whose reply the refusal is.
-        ensures logs { IfOk result (λ run. LogsGrowth self.old.hand self.new.hand run) }
+        // The history gets the claim of the run and what became of its places, or the event whose reply the
+        // refusal is.
+        ensures logs { IfOk result
+            (λ run. LogsGrowth self.old.vector AllFilled self.old.hand self.new.hand run) }
         ensures logs_refusal { IfErr result
-            (LogsRefusal (vec_len values) self.old.hand self.new.hand) }
+            (LogsRefusal self.old.vector (vec_len values) self.old.hand self.new.hand) }
         ensures vector { self.new.vector ≡ self.old.vector }
     {
         self.vector.append(rt, &mut self.hand, values)
@@ -95,9 +101,12 @@ impl<T: Drop> SharedWriter<T> {
         ensures cause { IfErr result (IsRefusedBy (StopsAfter F.step make)) }
         // Room that is missing by what the hand has seen is reported before memory is asked for.
         ensures full { HasNoRoom self.old.vector n self.old.hand → IsErrAnd result SaysFull }
-        // The history gets the claim of the run, or the event whose reply the refusal is.
-        ensures logs { IfOk result (λ grown. LogsGrowth self.old.hand self.new.hand grown.run) }
-        ensures logs_refusal { IfErr result (LogsRefusal n self.old.hand self.new.hand) }
+        // The history gets the claim of the run and what became of its places, or the event whose reply the
+        // refusal is.
+        ensures logs { IfOk result
+            (λ grown. LogsGrowth self.old.vector AllFilled self.old.hand self.new.hand grown.run) }
+        ensures logs_refusal { IfErr result
+            (LogsRefusal self.old.vector n self.old.hand self.new.hand) }
         ensures vector { self.new.vector ≡ self.old.vector }
     {
         self.vector.try_grow_with(&mut self.hand, n, make)
@@ -118,9 +127,12 @@ impl<T: Drop> SharedWriter<T> {
         ensures cause { IfErr result (IsRefusedBy (StopsAfter F.step make)) }
         ensures full { HasNoRoom self.old.vector n self.old.hand → IsErrAnd result SaysFull }
         ensures not_moved { IfErr result IsNotMoved }
-        // The history gets the claim of the run, or the event whose reply the refusal is.
-        ensures logs { IfOk result (λ grown. LogsGrowth self.old.hand self.new.hand grown.run) }
-        ensures logs_refusal { IfErr result (LogsRefusal n self.old.hand self.new.hand) }
+        // The history gets the claim of the run and what became of its places, or the event whose reply the
+        // refusal is.
+        ensures logs { IfOk result
+            (λ grown. LogsGrowth self.old.vector AllFilled self.old.hand self.new.hand grown.run) }
+        ensures logs_refusal { IfErr result
+            (LogsRefusal self.old.vector n self.old.hand self.new.hand) }
         ensures vector { self.new.vector ≡ self.old.vector }
     {
         self.vector.grow_with(rt, &mut self.hand, n, make)
@@ -144,9 +156,9 @@ impl<T: Drop> SharedWriter<T> {
         ensures enough { size ≤ seen_size self.old.hand → IsOkAnd result SaysEnough }
         ensures full { limit_of self.old.vector < size → IsErrAnd result SaysFull }
         // The history gets the claim of the run up to the size, or the event whose reply the refusal is.
-        ensures logs { IfOk result (LogsAtLeast size self.old.hand self.new.hand) }
+        ensures logs { IfOk result (LogsAtLeast self.old.vector size self.old.hand self.new.hand) }
         ensures logs_refusal { IfErr result
-            (LogsRefusalUpTo size self.old.hand self.new.hand) }
+            (LogsRefusalUpTo self.old.vector size self.old.hand self.new.hand) }
         ensures vector { self.new.vector ≡ self.old.vector }
     {
         self.vector.grow_to_at_least(&mut self.hand, size, make)
@@ -167,9 +179,12 @@ impl<T: Clone> SharedWriter<T> {
             (Refuses self.old.vector n tt self.old.hand self.new.hand) }
         ensures made { IfErr result (IsRefusedBy (λ values _. All (T.is_clone value.now) values)) }
         ensures full { HasNoRoom self.old.vector n self.old.hand → IsErrAnd result SaysFull }
-        // The history gets the claim of the run, or the event whose reply the refusal is.
-        ensures logs { IfOk result (λ grown. LogsGrowth self.old.hand self.new.hand grown.run) }
-        ensures logs_refusal { IfErr result (LogsRefusal n self.old.hand self.new.hand) }
+        // The history gets the claim of the run and what became of its places, or the event whose reply the
+        // refusal is.
+        ensures logs { IfOk result
+            (λ grown. LogsGrowth self.old.vector AllFilled self.old.hand self.new.hand grown.run) }
+        ensures logs_refusal { IfErr result
+            (LogsRefusal self.old.vector n self.old.hand self.new.hand) }
         ensures vector { self.new.vector ≡ self.old.vector }
     {
         self.vector.try_grow_by(&mut self.hand, n, value)
@@ -189,9 +204,12 @@ impl<T: Clone> SharedWriter<T> {
         ensures made { IfErr result (IsRefusedBy (λ values _. All (T.is_clone value.now) values)) }
         ensures full { HasNoRoom self.old.vector n self.old.hand → IsErrAnd result SaysFull }
         ensures not_moved { IfErr result IsNotMoved }
-        // The history gets the claim of the run, or the event whose reply the refusal is.
-        ensures logs { IfOk result (λ grown. LogsGrowth self.old.hand self.new.hand grown.run) }
-        ensures logs_refusal { IfErr result (LogsRefusal n self.old.hand self.new.hand) }
+        // The history gets the claim of the run and what became of its places, or the event whose reply the
+        // refusal is.
+        ensures logs { IfOk result
+            (λ grown. LogsGrowth self.old.vector AllFilled self.old.hand self.new.hand grown.run) }
+        ensures logs_refusal { IfErr result
+            (LogsRefusal self.old.vector n self.old.hand self.new.hand) }
         ensures vector { self.new.vector ≡ self.old.vector }
     {
         self.vector.grow_by(rt, &mut self.hand, n, value)
@@ -221,6 +239,11 @@ impl<T> SharedWriter<T> {
         ensures logs { IfOk result (λ _. LogsNothing self.old.hand self.new.hand) }
         ensures logs_refusal { IfErr result
             (λ (error, _). LogsMendRefusal place self.old.hand self.new.hand error) }
+        // It gets the mend and its fill, or the look that found the place pending or filled.
+        ensures mends { LogsMend self.old.vector place self.old.hand self.new.hand result }
+        // A caller that has seen the place filled in the history finds it filled.
+        ensures finished { IsFinishedIn self.old.hand.log place → IsLaid self.old.vector place
+            → IsErrAnd result (λ (error, _). SaysFilled error) }
         ensures vector { self.new.vector ≡ self.old.vector }
     {
         self.vector.mend(&mut self.hand, place, value)

@@ -3,9 +3,9 @@ ghost use Rattle.std.specs.Prelude.{◌≡◌, ◌<◌, ◌↔◌, IfOk, IfErr, 
 ghost use Rattle.std.specs.Iterator.{IsFinite};
 ghost use Rattle.claim_core.specs.Hand.{LogsRun, seen_size};
 ghost use Rattle.grow_core.specs.Vector.{limit_of};
-ghost use Rattle.grow_core.specs.Growth.{WonPlace, Refuses, HasNoRoom, SaysFull, IsNotMoved, single};
-ghost use Rattle.grow_core.specs.Logs.{LogsRefusal};
-ghost use Rattle.span_core.specs.Writer.{AppendsAll, StopsAppending};
+ghost use Rattle.grow_core.specs.Growth.{WonPlace, Refuses, HasNoRoom, SaysFull, IsNotMoved};
+ghost use Rattle.grow_core.specs.Logs.{LogsPush, LogsRefusal};
+ghost use Rattle.span_core.specs.Writer.{AppendsAll, StopsAppending, LogsPushes, StopsPushing};
 
 use crate::shared_writer::SharedWriter;
 use grow_core::{GrowError, Never, Placed, ReserveError, laws};
@@ -25,10 +25,11 @@ impl<T: Drop> SharedWriter<T> {
         // Room that is missing by what the hand has seen is reported before memory is asked for.
         ensures full { HasNoRoom self.old.vector 1 self.old.hand → IsErrAnd result SaysFull }
         ensures not_moved { IfErr result IsNotMoved }
-        // The history gets the claim of the place, or the event whose reply the refusal is.
+        // The history gets the claim of the place and its fill, or the event whose reply the refusal is.
         ensures logs { IfOk result
-            (λ placed. LogsRun self.old.hand self.new.hand (single placed.place)) }
-        ensures logs_refusal { IfErr result (LogsRefusal 1 self.old.hand self.new.hand) }
+            (λ placed. LogsPush self.old.vector self.old.hand self.new.hand placed.place) }
+        ensures logs_refusal { IfErr result
+            (LogsRefusal self.old.vector 1 self.old.hand self.new.hand) }
         ensures vector { self.new.vector ≡ self.old.vector }
     {
         self.vector.push_back(rt, &mut self.hand, value)
@@ -42,10 +43,11 @@ impl<T: Drop> SharedWriter<T> {
             (Refuses self.old.vector 1 value self.old.hand self.new.hand) }
         // Room that is missing by what the hand has seen is reported before memory is asked for.
         ensures full { HasNoRoom self.old.vector 1 self.old.hand → IsErrAnd result SaysFull }
-        // The history gets the claim of the place, or the event whose reply the refusal is.
+        // The history gets the claim of the place and its fill, or the event whose reply the refusal is.
         ensures logs { IfOk result
-            (λ placed. LogsRun self.old.hand self.new.hand (single placed.place)) }
-        ensures logs_refusal { IfErr result (LogsRefusal 1 self.old.hand self.new.hand) }
+            (λ placed. LogsPush self.old.vector self.old.hand self.new.hand placed.place) }
+        ensures logs_refusal { IfErr result
+            (LogsRefusal self.old.vector 1 self.old.hand self.new.hand) }
         ensures vector { self.new.vector ≡ self.old.vector }
     {
         self.vector.try_push_back(&mut self.hand, value)
@@ -61,10 +63,11 @@ impl<T: Drop> SharedWriter<T> {
             (Refuses self.old.vector 1 value self.old.hand self.new.hand) }
         // Room that is missing by what the hand has seen is reported before memory is asked for.
         ensures full { HasNoRoom self.old.vector 1 self.old.hand → IsErrAnd result SaysFull }
-        // The history gets the claim of the place, or the event whose reply the refusal is.
+        // The history gets the claim of the place and its fill, or the event whose reply the refusal is.
         ensures logs { IfOk result
-            (λ placed. LogsRun self.old.hand self.new.hand (single placed.place)) }
-        ensures logs_refusal { IfErr result (LogsRefusal 1 self.old.hand self.new.hand) }
+            (λ placed. LogsPush self.old.vector self.old.hand self.new.hand placed.place) }
+        ensures logs_refusal { IfErr result
+            (LogsRefusal self.old.vector 1 self.old.hand self.new.hand) }
         ensures vector { self.new.vector ≡ self.old.vector }
     {
         self.vector.try_push_seen(&mut self.hand, value)
@@ -72,6 +75,7 @@ impl<T: Drop> SharedWriter<T> {
 
     /// Tests whether there is room at the size that the hand has seen, and the hand has the key of the segment there.
     /// Then `try_push_seen` requests no memory.
+    /// The hand does not learn the segments that `reserve` installs; a push there requests no memory either.
     #[inline(always)]
     pub fn knows_next(&self) -> bool
         ensures room { IsTrue result → seen_size self.now.hand < limit_of self.now.vector }
@@ -105,6 +109,10 @@ impl<T: Drop> SharedWriter<T> {
         ensures stopped { IfErr result
             (StopsAppending I.next_gives items self.old.vector self.old.hand self.new.hand) }
         ensures not_moved { IfErr result (λ (_, refused). IsNotMoved refused) }
+        // The history gets the claim and the fill of each place, in order; and then the event of the refusal.
+        ensures logs { IfOk result (LogsPushes self.old.vector self.old.hand self.new.hand) }
+        ensures logs_refusal { IfErr result
+            (StopsPushing self.old.vector self.old.hand self.new.hand) }
         ensures vector { self.new.vector ≡ self.old.vector }
     {
         // For the proof: a hand that wins a place owns one more.

@@ -1,7 +1,7 @@
 //! How a writer appends copies, and places without values.
 ghost use Rattle.std.specs.Prelude.{◌≡◌, IfOk, IfErr, IsErrAnd, length, replicate};
 ghost use Rattle.grow_core.specs.Growth.{WonRun, WonPlaces, Refuses, HasNoRoom, SaysFull, IsNotMoved};
-ghost use Rattle.grow_core.specs.Logs.{LogsGrowth, LogsRefusal};
+ghost use Rattle.grow_core.specs.Logs.{AllBroken, AllFilled, LogsGrowth, LogsRefusal};
 
 use crate::tie::Tie;
 use crate::writer::Writer;
@@ -19,10 +19,12 @@ impl<'a, T: Copy, B: Tie> Writer<'a, T, B> {
         // Room that is missing by what the hand has seen is reported before memory is asked for.
         ensures full { HasNoRoom self.old.vector (length values.now) self.old.hand
             → IsErrAnd result SaysFull }
-        // The history gets the claim of the run, or the event whose reply the refusal is.
-        ensures logs { IfOk result (λ grown. LogsGrowth self.old.hand self.new.hand grown.run) }
+        // The history gets the claim of the run and what became of its places, or the event whose reply the
+        // refusal is.
+        ensures logs { IfOk result
+            (λ grown. LogsGrowth self.old.vector AllFilled self.old.hand self.new.hand grown.run) }
         ensures logs_refusal { IfErr result
-            (LogsRefusal (length values.now) self.old.hand self.new.hand) }
+            (LogsRefusal self.old.vector (length values.now) self.old.hand self.new.hand) }
         ensures vector { self.new.vector ≡ self.old.vector }
     {
         let vector = self.vector;
@@ -41,10 +43,12 @@ impl<'a, T: Copy, B: Tie> Writer<'a, T, B> {
         ensures full { HasNoRoom self.old.vector (length values.now) self.old.hand
             → IsErrAnd result SaysFull }
         ensures not_moved { IfErr result IsNotMoved }
-        // The history gets the claim of the run, or the event whose reply the refusal is.
-        ensures logs { IfOk result (λ grown. LogsGrowth self.old.hand self.new.hand grown.run) }
+        // The history gets the claim of the run and what became of its places, or the event whose reply the
+        // refusal is.
+        ensures logs { IfOk result
+            (λ grown. LogsGrowth self.old.vector AllFilled self.old.hand self.new.hand grown.run) }
         ensures logs_refusal { IfErr result
-            (LogsRefusal (length values.now) self.old.hand self.new.hand) }
+            (LogsRefusal self.old.vector (length values.now) self.old.hand self.new.hand) }
         ensures vector { self.new.vector ≡ self.old.vector }
     {
         let vector = self.vector;
@@ -58,9 +62,12 @@ impl<'a, T: Copy, B: Tie> Writer<'a, T, B> {
         ensures refused { IfErr result (Refuses self.old.vector n tt self.old.hand self.new.hand) }
         // Room that is missing by what the hand has seen is reported before memory is asked for.
         ensures full { HasNoRoom self.old.vector n self.old.hand → IsErrAnd result SaysFull }
-        // The history gets the claim of the run, or the event whose reply the refusal is.
-        ensures logs { IfOk result (λ grown. LogsGrowth self.old.hand self.new.hand grown.run) }
-        ensures logs_refusal { IfErr result (LogsRefusal n self.old.hand self.new.hand) }
+        // The history gets the claim of the run and what became of its places, or the event whose reply the
+        // refusal is.
+        ensures logs { IfOk result
+            (λ grown. LogsGrowth self.old.vector AllFilled self.old.hand self.new.hand grown.run) }
+        ensures logs_refusal { IfErr result
+            (LogsRefusal self.old.vector n self.old.hand self.new.hand) }
         ensures vector { self.new.vector ≡ self.old.vector }
     {
         let vector = self.vector;
@@ -79,9 +86,12 @@ impl<'a, T: Copy, B: Tie> Writer<'a, T, B> {
         ensures refused { IfErr result (Refuses self.old.vector n tt self.old.hand self.new.hand) }
         ensures full { HasNoRoom self.old.vector n self.old.hand → IsErrAnd result SaysFull }
         ensures not_moved { IfErr result IsNotMoved }
-        // The history gets the claim of the run, or the event whose reply the refusal is.
-        ensures logs { IfOk result (λ grown. LogsGrowth self.old.hand self.new.hand grown.run) }
-        ensures logs_refusal { IfErr result (LogsRefusal n self.old.hand self.new.hand) }
+        // The history gets the claim of the run and what became of its places, or the event whose reply the
+        // refusal is.
+        ensures logs { IfOk result
+            (λ grown. LogsGrowth self.old.vector AllFilled self.old.hand self.new.hand grown.run) }
+        ensures logs_refusal { IfErr result
+            (LogsRefusal self.old.vector n self.old.hand self.new.hand) }
         ensures vector { self.new.vector ≡ self.old.vector }
     {
         let vector = self.vector;
@@ -103,10 +113,12 @@ impl<'a, T: Drop, B: Tie> Writer<'a, T, B> {
         // Room that is missing by what the hand has seen is reported before memory is asked for.
         ensures full { HasNoRoom self.old.vector (length (S.values source.now)) self.old.hand
             → IsErrAnd result SaysFull }
-        // The history gets the claim of the run, or the event whose reply the refusal is.
-        ensures logs { IfOk result (λ grown. LogsGrowth self.old.hand self.new.hand grown.run) }
+        // The history gets the claim of the run and what became of its places, or the event whose reply the
+        // refusal is.
+        ensures logs { IfOk result
+            (λ grown. LogsGrowth self.old.vector AllFilled self.old.hand self.new.hand grown.run) }
         ensures logs_refusal { IfErr result
-            (LogsRefusal (length (S.values source.now)) self.old.hand self.new.hand) }
+            (LogsRefusal self.old.vector (length (S.values source.now)) self.old.hand self.new.hand) }
         ensures vector { self.new.vector ≡ self.old.vector }
     {
         let vector = self.vector;
@@ -121,9 +133,12 @@ impl<'a, T: Drop, B: Tie> Writer<'a, T, B> {
         ensures refused { IfErr result (Refuses self.old.vector n tt self.old.hand self.new.hand) }
         // Room that is missing by what the hand has seen is reported before memory is asked for.
         ensures full { HasNoRoom self.old.vector n self.old.hand → IsErrAnd result SaysFull }
-        // The history gets the claim of the run, or the event whose reply the refusal is.
-        ensures logs { IfOk result (λ run. LogsGrowth self.old.hand self.new.hand run) }
-        ensures logs_refusal { IfErr result (LogsRefusal n self.old.hand self.new.hand) }
+        // The history gets the claim of the run and what became of its places, or the event whose reply the
+        // refusal is.
+        ensures logs { IfOk result
+            (λ run. LogsGrowth self.old.vector AllBroken self.old.hand self.new.hand run) }
+        ensures logs_refusal { IfErr result
+            (LogsRefusal self.old.vector n self.old.hand self.new.hand) }
         ensures vector { self.new.vector ≡ self.old.vector }
     {
         let vector = self.vector;
@@ -136,9 +151,12 @@ impl<'a, T: Drop, B: Tie> Writer<'a, T, B> {
         ensures refused { IfErr result (Refuses self.old.vector n tt self.old.hand self.new.hand) }
         ensures full { HasNoRoom self.old.vector n self.old.hand → IsErrAnd result SaysFull }
         ensures not_moved { IfErr result IsNotMoved }
-        // The history gets the claim of the run, or the event whose reply the refusal is.
-        ensures logs { IfOk result (λ run. LogsGrowth self.old.hand self.new.hand run) }
-        ensures logs_refusal { IfErr result (LogsRefusal n self.old.hand self.new.hand) }
+        // The history gets the claim of the run and what became of its places, or the event whose reply the
+        // refusal is.
+        ensures logs { IfOk result
+            (λ run. LogsGrowth self.old.vector AllBroken self.old.hand self.new.hand run) }
+        ensures logs_refusal { IfErr result
+            (LogsRefusal self.old.vector n self.old.hand self.new.hand) }
         ensures vector { self.new.vector ≡ self.old.vector }
     {
         let vector = self.vector;

@@ -3,9 +3,9 @@ ghost use Rattle.std.specs.Prelude.{◌≡◌, ◌<◌, ◌↔◌, IfOk, IfErr, 
 ghost use Rattle.std.specs.Iterator.{IsFinite};
 ghost use Rattle.claim_core.specs.Hand.{LogsRun, seen_size};
 ghost use Rattle.grow_core.specs.Vector.{limit_of};
-ghost use Rattle.grow_core.specs.Growth.{WonPlace, Refuses, HasNoRoom, SaysFull, IsNotMoved, single};
-ghost use Rattle.grow_core.specs.Logs.{LogsRefusal};
-ghost use Rattle.span_core.specs.Writer.{AppendsAll, StopsAppending};
+ghost use Rattle.grow_core.specs.Growth.{WonPlace, Refuses, HasNoRoom, SaysFull, IsNotMoved};
+ghost use Rattle.grow_core.specs.Logs.{LogsPush, LogsRefusal};
+ghost use Rattle.span_core.specs.Writer.{AppendsAll, StopsAppending, LogsPushes, StopsPushing};
 
 use crate::tie::Tie;
 use crate::writer::Writer;
@@ -26,10 +26,11 @@ impl<'a, T: Drop, B: Tie> Writer<'a, T, B> {
         // Room that is missing by what the hand has seen is reported before memory is asked for.
         ensures full { HasNoRoom self.old.vector 1 self.old.hand → IsErrAnd result SaysFull }
         ensures not_moved { IfErr result IsNotMoved }
-        // The history gets the claim of the place, or the event whose reply the refusal is.
+        // The history gets the claim of the place and its fill, or the event whose reply the refusal is.
         ensures logs { IfOk result
-            (λ placed. LogsRun self.old.hand self.new.hand (single placed.place)) }
-        ensures logs_refusal { IfErr result (LogsRefusal 1 self.old.hand self.new.hand) }
+            (λ placed. LogsPush self.old.vector self.old.hand self.new.hand placed.place) }
+        ensures logs_refusal { IfErr result
+            (LogsRefusal self.old.vector 1 self.old.hand self.new.hand) }
         ensures vector { self.new.vector ≡ self.old.vector }
     {
         let vector = self.vector;
@@ -44,10 +45,11 @@ impl<'a, T: Drop, B: Tie> Writer<'a, T, B> {
             (Refuses self.old.vector 1 value self.old.hand self.new.hand) }
         // Room that is missing by what the hand has seen is reported before memory is asked for.
         ensures full { HasNoRoom self.old.vector 1 self.old.hand → IsErrAnd result SaysFull }
-        // The history gets the claim of the place, or the event whose reply the refusal is.
+        // The history gets the claim of the place and its fill, or the event whose reply the refusal is.
         ensures logs { IfOk result
-            (λ placed. LogsRun self.old.hand self.new.hand (single placed.place)) }
-        ensures logs_refusal { IfErr result (LogsRefusal 1 self.old.hand self.new.hand) }
+            (λ placed. LogsPush self.old.vector self.old.hand self.new.hand placed.place) }
+        ensures logs_refusal { IfErr result
+            (LogsRefusal self.old.vector 1 self.old.hand self.new.hand) }
         ensures vector { self.new.vector ≡ self.old.vector }
     {
         let vector = self.vector;
@@ -64,10 +66,11 @@ impl<'a, T: Drop, B: Tie> Writer<'a, T, B> {
             (Refuses self.old.vector 1 value self.old.hand self.new.hand) }
         // Room that is missing by what the hand has seen is reported before memory is asked for.
         ensures full { HasNoRoom self.old.vector 1 self.old.hand → IsErrAnd result SaysFull }
-        // The history gets the claim of the place, or the event whose reply the refusal is.
+        // The history gets the claim of the place and its fill, or the event whose reply the refusal is.
         ensures logs { IfOk result
-            (λ placed. LogsRun self.old.hand self.new.hand (single placed.place)) }
-        ensures logs_refusal { IfErr result (LogsRefusal 1 self.old.hand self.new.hand) }
+            (λ placed. LogsPush self.old.vector self.old.hand self.new.hand placed.place) }
+        ensures logs_refusal { IfErr result
+            (LogsRefusal self.old.vector 1 self.old.hand self.new.hand) }
         ensures vector { self.new.vector ≡ self.old.vector }
     {
         let vector = self.vector;
@@ -76,6 +79,7 @@ impl<'a, T: Drop, B: Tie> Writer<'a, T, B> {
 
     /// Tests whether there is room at the size that the hand has seen, and the hand has the key of the segment there.
     /// Then `try_push_seen` requests no memory.
+    /// The hand does not learn the segments that `reserve` installs; a push there requests no memory either.
     #[inline(always)]
     pub fn knows_next(&self) -> bool
         ensures room { IsTrue result → seen_size self.now.hand < limit_of self.now.vector }
@@ -111,6 +115,10 @@ impl<'a, T: Drop, B: Tie> Writer<'a, T, B> {
         ensures stopped { IfErr result
             (StopsAppending I.next_gives items self.old.vector self.old.hand self.new.hand) }
         ensures not_moved { IfErr result (λ (_, refused). IsNotMoved refused) }
+        // The history gets the claim and the fill of each place, in order; and then the event of the refusal.
+        ensures logs { IfOk result (LogsPushes self.old.vector self.old.hand self.new.hand) }
+        ensures logs_refusal { IfErr result
+            (StopsPushing self.old.vector self.old.hand self.new.hand) }
         ensures vector { self.new.vector ≡ self.old.vector }
     {
         // For the proof: a hand that wins a place owns one more.

@@ -203,6 +203,8 @@ pub fn with_writers<
     // So the same number of workers may come again. Nothing else is known of its shares.
     ensures again { workers < hand.new.shares }
     ensures begins { IsPrefix hand.old.seen hand.new.seen }
+    // Its history goes on, and has that of each worker's hand.
+    ensures begins_log { IsPrefix hand.old.log hand.new.log }
     ensures mine { IsPrefix hand.old.mine hand.new.mine }
     ensures answers { IfOk result (λ answers.
         HaveWritten (W.says work.now) vector.now hand.old hand.new workers answers.items) }

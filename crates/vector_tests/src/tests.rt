@@ -4,6 +4,7 @@ mod calls;
 mod copies;
 mod drops;
 mod edits;
+mod filled;
 mod first;
 mod growth_calls;
 mod histories;

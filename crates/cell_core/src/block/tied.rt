@@ -117,7 +117,7 @@ impl<T, A: Allocator> Block<T, A, Tied> {
             let value = self.cell(offset).value(&written);
             (Look::Filled(value, Placed { offset, written }), offer)
         } else {
-            (self.unfilled(offset, found, sight), offer)
+            (self.look_unfilled(offset, found, sight), offer)
         }
     }
 

@@ -114,14 +114,24 @@ fn break_and_mend<R: Wait>(rt: &R, writer: &mut Writer<'_, u64>, way: &Way, n: u
     outcome
 }
 
-// Appends a number once there is room for it. Then the hand knows its place, unless that is past the limit.
+// Tests whether the hand knows the segment of the next place only if it has appended a number there.
+fn knows_its_segments(writer: &Writer<'_, u64>, next: u64) -> bool {
+    if next == 0 || LIMIT <= next {
+        return !writer.knows_next();
+    }
+    let layout = writer.vector().layout();
+    let (segment, _) = layout.locate(next);
+    let (last, _) = layout.locate(next - 1);
+    writer.knows_next() == (segment == last)
+}
+
+// Appends a number once there is room for it. The hand does not learn the segments that are reserved.
 fn push_reserved(writer: &mut Writer<'_, u64>, number: u64) -> Outcome {
-    let has_room = match writer.reserve(number.saturating_add(1)) {
-        Ok(()) => true,
-        Err(ReserveError::TooLong) => false,
+    match writer.reserve(number.saturating_add(1)) {
+        Ok(()) | Err(ReserveError::TooLong) => {}
         Err(ReserveError::NoMemory) => return Err(Why::NoMemory),
-    };
-    if writer.knows_next() == has_room {
+    }
+    if knows_its_segments(writer, number) {
         placed(writer.try_push_seen(number))
     } else {
         Err(Why::Other)

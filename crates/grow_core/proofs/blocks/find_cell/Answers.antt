@@ -15,3 +15,8 @@ locate-segment-requires g c =
     let f : ℕ = c.args.table.now.layout in let le = starts_le f c.args.count (segment_count f) c.requires.few in
     let most : f ≤ 8 = subst (λ (l : ℕ). l ≤ 8) c.layout-layout.ensures.value c.f-f.ensures.layout.1 in let all = all_places f most in
     omega (arith, le, all, c.requires.inside)
+
+pub returns-in-Some-clause-first : goal.returns-in-Some-clause-first
+returns-in-Some-clause-first g c =
+    segment_below c.layout-layout.result c.locate-segment.result.0 c.args.place c.args.count c.locate-segment.ensures.segment
+    (subst (λ (f : ℕ). c.args.place < segment_start f c.args.count) (sym c.layout-layout.ensures.value) c.requires.inside)

@@ -1,4 +1,5 @@
-use Rattle.std.proofs.Common.{arith}
+use Rattle.std.proofs.Common.{ℕ, subst, arith}
+use Rattle.cell_core.specs.Block.{AreAtFilled}
 use Rattle.grow_core.proofs.Broken.{filled_count, row_append, stretch_count}
 use Rattle.grow_core.proofs.FoundFilled.{settled_found}
 use Rattle.grow_core.proofs.Settled.{settled_more}
@@ -8,7 +9,8 @@ pub returns-then-count-n-clause-settled : goal.returns-then-count-n-clause-settl
 returns-then-count-n-clause-settled g c =
     let found = c.filled_row-count in
     settled_found c.args.block.now c.args.offset c.args.opened.now c.args.place c.args.row.now c.append.new.self found.result.1 c.args.epoch.now c.args.n
-    c.append.ensures (omega (arith, found.ensures.row, c.if-count-n.true)) found.ensures.filled c.agree_all.ensures
+    c.append.ensures (omega (arith, found.ensures.row, c.if-count-n.true)) found.ensures.filled
+    (subst (λ (k : ℕ). AreAtFilled c.args.block.now c.args.offset k) c.if-count-n.true found.ensures.stages) c.agree_all.ensures
 
 pub returns-then-count-n-clause-broken : goal.returns-then-count-n-clause-broken
 returns-then-count-n-clause-broken g c =
@@ -20,8 +22,8 @@ returns-clause-settled g c =
     let found = c.filled_row-count in let cell = c.settle-member in let count = found.result.0 in
     settled_more c.args.block.now c.args.block.now c.args.offset c.args.opened.now c.args.place c.args.row.now c.append.new.self c.args.epoch.now count
     (settled_found c.args.block.now c.args.offset c.args.opened.now c.args.place c.args.row.now c.append.new.self found.result.1 c.args.epoch.now count
-    c.append.ensures found.ensures.row found.ensures.filled c.agree_all.ensures)
-    cell.new.block c.at-known.result cell.result c.push.new.self c.push.ensures c.at-known.ensures cell.ensures.kept cell.ensures.member cell.ensures.name cell.ensures.broken cell.ensures.len cell.ensures.others
+    c.append.ensures found.ensures.row found.ensures.filled found.ensures.stages c.agree_all.ensures)
+    cell.new.block c.at-known.result cell.result c.push.new.self c.push.ensures c.at-known.ensures cell.ensures.kept cell.ensures.stage cell.ensures.member cell.ensures.name cell.ensures.broken cell.ensures.len cell.ensures.others
 
 pub returns-clause-broken : goal.returns-clause-broken
 returns-clause-broken g c =

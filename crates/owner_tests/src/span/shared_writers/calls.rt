@@ -57,7 +57,8 @@ fn break_and_mend<R: Wait>(rt: &R, writer: &mut SharedWriter<u64>, way: &Way, n:
     outcome
 }
 
-// Appends a number once there is room for it. Then the hand knows its place, unless that is past the limit.
+// Appends a number once there is room for it. The hand knows the place's segment by what it appended before, unless the
+// place is past the limit.
 fn push_reserved(writer: &mut SharedWriter<u64>, number: u64) -> Outcome {
     let has_room = match writer.reserve(number.saturating_add(1)) {
         Ok(()) => true,

@@ -15,7 +15,7 @@ returns-clause-answers g c =
     let join = c.join.ensures in
     let shares = old.shares - c.args.workers in
     let of : new.of ≡ own.of = join.of ∙ (rest_of old rest shares c.split-theirs.ensures.kept ∙ (c.requires.ours ∙ sym left.of)) in
-    let part : IsWithinHand own new = part_right rest own new of join.also_begins join.mine in
+    let part : IsWithinHand own new = part_right rest own new of join.also_begins join.also_begins_log join.mine in
     all-answer (λ v. v.items) (of_answer says) (of_refusal says) may old own new c.args.workers c.share_hand-own.result.answers
     part (rest_mine old rest own new shares c.split-theirs.ensures.kept join.mine) left.answered
 
@@ -31,5 +31,5 @@ returns-clause-refused g c =
     let join = c.join.ensures in
     let shares = old.shares - c.args.workers in
     let of : new.of ≡ own.of = join.of ∙ (rest_of old rest shares c.split-theirs.ensures.kept ∙ (c.requires.ours ∙ sym left.of)) in
-    let part : IsWithinHand own new = part_right rest own new of join.also_begins join.mine in
+    let part : IsWithinHand own new = part_right rest own new of join.also_begins join.also_begins_log join.mine in
     all-refuse (λ v. v.items) (of_answer says) (of_refusal says) may own new c.args.workers c.share_hand-own.result.answers part left.refused

@@ -21,7 +21,7 @@ returns-clause-answers g c =
     let join = c.join.ensures in
     let shares = old.shares - workers * (c.share.result / (workers + 1)) in
     let of : new.of ≡ own.of = join.of ∙ (rest_of old rest shares c.split-theirs.ensures.kept ∙ (c.requires.ours ∙ sym left.of)) in
-    let part : IsWithinHand own new = part_right rest own new of join.also_begins join.mine in
+    let part : IsWithinHand own new = part_right rest own new of join.also_begins join.also_begins_log join.mine in
     subst (λ s. IfOk answers (λ v. HaveAnswered (of_answer (says s)) old new workers v.items)) each
     (all-answer (λ v. v.items) (of_answer one) (of_refusal one) may old own new workers answers
     part (rest_mine old rest own new shares c.split-theirs.ensures.kept join.mine) left.answered)
@@ -42,6 +42,6 @@ returns-clause-refused g c =
     let join = c.join.ensures in
     let shares = old.shares - workers * (c.share.result / (workers + 1)) in
     let of : new.of ≡ own.of = join.of ∙ (rest_of old rest shares c.split-theirs.ensures.kept ∙ (c.requires.ours ∙ sym left.of)) in
-    let part : IsWithinHand own new = part_right rest own new of join.also_begins join.mine in
+    let part : IsWithinHand own new = part_right rest own new of join.also_begins join.also_begins_log join.mine in
     subst (λ s. IfErr answers (EndsCrew (λ (v : Vec _ Global). v.items) (of_answer (says s)) (of_refusal (says s)) may new 0 workers)) each
     (all-end (λ v. v.items) (of_answer one) (of_refusal one) may own new workers answers part left.refused)

@@ -2,6 +2,9 @@ use Rattle.std.proofs.Common.{sym, subst}
 use Rattle.grow_core.specs.Making.{WonMade}
 use Rattle.caller_core.specs.Caller.{CallerView}
 use Rattle.caller_core.specs.Grows.{TellsLast}
+use Rattle.claim_core.specs.declared.run.Run.{Run}
+use Rattle.grow_core.specs.Logs.{AllFilled, LogsGrowth}
+use Rattle.caller_core.proofs.Kept.{run_is}
 use Rattle.caller_core.proofs.caller.Caller.grow_made.Goals as goal
 
 pub returns-clause-grown : goal.returns-clause-grown
@@ -18,3 +21,12 @@ returns-clause-grown g c =
           subst (λ (w : CallerView _). TellsLast c.in_ok-grown.grown w.last c.keep_last.new.last)
           c.self.view_is c.keep_last.ensures.last;
     }
+
+pub returns-clause-logs : goal.returns-clause-logs
+returns-clause-logs g c =
+    subst (λ (r : Run). LogsGrowth c.args.self.now.vector AllFilled c.args.self.now.hand c.try_grow_with.new.hand r)
+    (run_is c.in_ok-grown.grown.run c.keep_last.result (c.args.n) (sym c.keep_last.ensures.place) (c.in_ok-grown.ensures.won.n))
+    (subst (λ (w : CallerView _). LogsGrowth w.vector AllFilled w.hand c.try_grow_with.new.hand c.in_ok-grown.grown.run)
+    c.self.view_is
+    (subst (λ h. LogsGrowth h.vector AllFilled c.self.inside.hand c.try_grow_with.new.hand c.in_ok-grown.grown.run)
+    c.deref.ensures c.in_ok-grown.ensures.logs))

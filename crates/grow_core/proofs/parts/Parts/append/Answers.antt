@@ -39,7 +39,7 @@ invariant_of-self g c =
       subst (AreBrokenIn c.self.inside.epoch) (sym pushed) (broken_more c.self.inside.epoch known m c.self.invariant.2 c.write-member.ensures.broken),
       (let more = row_more known c.push.new.self m pushed in let one = ap (λ (v : Option g.row.T.Denot). one_if_broken v) c.write-member.ensures.value in
           omega (arith, c.self.invariant.3, c.count_broken.ensures, more, one)),
-      plain_put c.self.inside.table taken.new.table c.put_block.new.table taken.result.0 taken.ensures.layout c.put_block.ensures.layout taken.ensures.bonds c.put_block.ensures.bonds c.put_block.ensures.plain c.self.invariant.4,
+      plain_put c.self.inside.table taken.new.table c.put_block.new.table taken.result.0 c.self.inside.count taken.ensures.layout c.put_block.ensures.layout taken.ensures.bonds c.put_block.ensures.bonds c.put_block.ensures.plain c.self.invariant.4,
     )
 
 pub overflow_add-self : goal.overflow_add-self

@@ -21,5 +21,5 @@ invariant_of-self g c =
       tt,
       c.self.invariant.2,
       c.self.invariant.3,
-      plain_kept _ _ _ c.give_up.ensures.layout c.give_up.ensures.bonds c.give_up.ensures.plain c.self.invariant.4,
+      (λ k low. plain_kept inside.table c.give_up.new.self (inside.count - 1) inside.count c.give_up.ensures.layout c.give_up.ensures.bonds c.give_up.ensures.plain c.self.invariant.4 k (omega (arith, low, some))),
     )

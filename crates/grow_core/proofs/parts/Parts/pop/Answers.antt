@@ -37,7 +37,7 @@ invariant_of-self g c =
       broken_fewer c.self.inside.epoch known' last (subst (AreBrokenIn c.self.inside.epoch) popped c.self.invariant.2),
       (let more = row_more known' known last popped in let one = popped_value known known' last c.at.result (len - 1) popped (omega (arith, fewer)) c.at.ensures in
           let same = ap (λ (v : Option g.row.T.Denot). one_if_broken v) (one ∙ sym c.take_member-value.ensures.value) in omega (arith, c.self.invariant.3, c.count_broken.ensures, more, same)),
-      plain_put c.self.inside.table taken.new.table c.put_block.new.table taken.result.0 taken.ensures.layout c.put_block.ensures.layout taken.ensures.bonds c.put_block.ensures.bonds c.put_block.ensures.plain c.self.invariant.4,
+      plain_put c.self.inside.table taken.new.table c.put_block.new.table taken.result.0 c.self.inside.count taken.ensures.layout c.put_block.ensures.layout taken.ensures.bonds c.put_block.ensures.bonds c.put_block.ensures.plain c.self.invariant.4,
     )
 
 pub take_member-value-requires-clause-epoch : goal.take_member-value-requires-clause-epoch

@@ -56,7 +56,7 @@ invariant_of-self g c =
       broken_first inside.epoch known' popped.popped (subst (AreBrokenIn inside.epoch) popped.row c.self.invariant.2),
       (let none = unbroken_count (values_in known) (subst (λ (v : PartsView _). IsUnbroken v.members) (sym c.self.view_is) c.requires.unbroken) in
           let more = row_append known' popped.popped known popped.row in omega (arith, c.self.invariant.3, none, more)),
-      plain_kept _ _ _ taken.ensures.layout taken.ensures.bonds taken.ensures.plain c.self.invariant.4,
+      (λ k low. plain_kept inside.table taken.new.table segment inside.count taken.ensures.layout taken.ensures.bonds taken.ensures.plain c.self.invariant.4 k (omega (arith, low, one))),
     )
 
 pub returns-clause-unbroken : goal.returns-clause-unbroken

@@ -41,7 +41,7 @@ invariant_of-self g c =
       subst (AreBrokenIn c.self.inside.epoch) (sym changed) (broken_set c.self.inside.epoch known place m c.self.invariant.2 c.write-member.ensures.broken),
       (let set = row_set known c.set.new.self place c.at.result m changed c.at.ensures in let old = ap (λ (v : Option g.row.T.Denot). one_if_broken v) c.take_member-held.ensures.value in
           let new = ap (λ (v : Option g.row.T.Denot). one_if_broken v) c.write-member.ensures.value in omega (arith, c.self.invariant.3, c.count_broken.ensures, c.count_broken-2.ensures, set, old, new)),
-      plain_put c.self.inside.table taken.new.table c.put_block.new.table taken.result.0 taken.ensures.layout c.put_block.ensures.layout taken.ensures.bonds c.put_block.ensures.bonds c.put_block.ensures.plain c.self.invariant.4,
+      plain_put c.self.inside.table taken.new.table c.put_block.new.table taken.result.0 c.self.inside.count taken.ensures.layout c.put_block.ensures.layout taken.ensures.bonds c.put_block.ensures.bonds c.put_block.ensures.plain c.self.invariant.4,
     )
 
 pub take_member-held-requires-clause-epoch : goal.take_member-held-requires-clause-epoch

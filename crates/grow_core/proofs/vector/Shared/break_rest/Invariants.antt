@@ -1,8 +1,10 @@
-use Rattle.std.proofs.Common.{◌≡◌, ◌+◌, ◌≤◌, List, length}
+use Rattle.std.proofs.Common.{◌≡◌, ◌+◌, ◌-◌, ◌≤◌, List, length}
 use Rattle.std.specs.List.{FoldsTo}
 use Rattle.grow_core.specs.Token.{SpoiltView}
 use Rattle.grow_core.specs.BrokenRun.{AreBrokenFrom}
-use Rattle.grow_core.specs.Segment.{IsSegmentOf}
+use Rattle.grow_core.specs.Segment.{IsSegmentOf, KnowsSegment}
+use Rattle.grow_core.specs.Logs.{break_steps}
+use Rattle.grow_core.specs.Steps.{WorksIn, AddsOn}
 use Rattle.grow_core.proofs.vector.Shared.break_rest.Given as goal
 
 abbrev pub invariant-loop-place : goal.invariant-loop-place
@@ -12,4 +14,8 @@ invariant-loop-place g l =
     × IsSegmentOf l.self l.segment
     × (l.segment.from ≤ l.place)
     × (l.place ≤ l.segment.end)
+    × KnowsSegment l.hand l.segment
+    × WorksIn l.fn.hand l.hand (l.fn.run.from + l.fn.first) (l.place - (l.fn.run.from + l.fn.first))
+    × AddsOn l.self l.fn.hand l.hand l.fn.run (l.fn.run.from + l.fn.first)
+    (λ index. break_steps index (l.fn.run.from + l.fn.first) (l.place - (l.fn.run.from + l.fn.first)))
     × goal.K-IsAlwaysCallable g l.keep

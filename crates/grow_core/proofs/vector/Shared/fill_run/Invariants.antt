@@ -1,8 +1,10 @@
 use Rattle.std.proofs.Common.{◌≡◌, ◌+◌, ◌-◌, ◌≤◌, ◌++◌, List, length}
 use Rattle.std.specs.Vec.Iter.{into_iter_items}
 use Rattle.grow_core.specs.Filled.{IsFilledOf}
-use Rattle.grow_core.specs.Segment.{IsSegmentOf}
+use Rattle.grow_core.specs.Segment.{IsSegmentOf, KnowsSegment}
 use Rattle.grow_core.specs.Stretch.{IsCounted}
+use Rattle.grow_core.specs.Logs.{fill_steps}
+use Rattle.grow_core.specs.Steps.{WorksIn, AddsOn}
 use Rattle.grow_core.proofs.vector.Shared.fill_run.Given as goal
 
 abbrev pub invariant-loop-place : goal.invariant-loop-place
@@ -14,6 +16,9 @@ invariant-loop-place g l =
     × IsSegmentOf l.self l.segment
     × (l.segment.from ≤ l.place)
     × (l.place ≤ l.segment.end)
+    × KnowsSegment l.hand l.segment
+    × WorksIn l.fn.hand l.hand l.run.from (l.place - l.run.from)
+    × AddsOn l.self l.fn.hand l.hand l.run l.run.from (λ index. fill_steps index l.run.from (l.place - l.run.from))
 
 abbrev pub decreases-loop-place : goal.decreases-loop-place
 decreases-loop-place g l = l.run.from + l.run.n - l.place

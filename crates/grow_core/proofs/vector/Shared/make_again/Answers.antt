@@ -1,6 +1,7 @@
 use Rattle.std.proofs.lemmas.Result.{err_from_is_err_and}
+use Rattle.grow_core.proofs.Claims.{claimed_still}
 use Rattle.grow_core.proofs.Made.{left_by_none, won_made}
-use Rattle.grow_core.proofs.Logs.{grown_all_logged, stopped_all_logged}
+use Rattle.grow_core.proofs.Wins.{grown_all_logged, stopped_all_logged}
 use Rattle.grow_core.proofs.vector.Shared.make_again.Goals as goal
 
 pub returns-in_err-run-clause-asked : goal.returns-in_err-run-clause-asked
@@ -11,12 +12,14 @@ returns-in_err-run-clause-asked g c =
 pub returns-clause-won : goal.returns-clause-won
 returns-clause-won g c =
     let filled = c.make_run.ensures in
-    won_made (goal.F-step g) c.args.make.now c.args.self.now c.args.n c.args.hand.now c.claim_again.new.hand c.in_ok-run.run' c.make_run.result
-    c.make_run.new.make c.in_ok-run.ensures.claimed filled.run filled.n filled.tokens filled.made
+    let old = c.args.hand.now in let mid = c.claim_again.new.hand in let new = c.make_run.new.hand in
+    won_made (goal.F-step g) c.args.make.now c.args.self.now c.args.n old new c.in_ok-run.run' c.make_run.result c.make_run.new.make
+    (claimed_still old mid new filled.works.keeps c.args.self.now c.args.n c.in_ok-run.run' c.in_ok-run.ensures.claimed) filled.run filled.n filled.tokens filled.made
 
 pub returns-clause-logs : goal.returns-clause-logs
-returns-clause-logs g c = grown_all_logged c.args.hand.now c.claim_again.new.hand c.in_ok-run.run' c.make_run.result c.in_ok-run.ensures.logs c.make_run.ensures.run
+returns-clause-logs g c = grown_all_logged c.args.self.now c.args.hand.now c.claim_again.new.hand c.make_run.new.hand c.in_ok-run.run' c.in_ok-run.ensures.logs c.in_ok-run.ensures.new_run c.make_run.ensures.works c.make_run.result c.make_run.ensures.run c.make_run.ensures.adds
 
 pub returns-clause-logs_refusal : goal.returns-clause-logs_refusal
 returns-clause-logs_refusal g c =
-    stopped_all_logged c.args.self.now _ c.args.hand.now c.claim_again.new.hand c.in_ok-run.run' c.make_run.result c.in_ok-run.ensures.claimed.n c.in_ok-run.ensures.logs c.make_run.ensures.stopped
+    stopped_all_logged c.args.self.now c.args.hand.now c.claim_again.new.hand c.make_run.new.hand c.in_ok-run.run' c.in_ok-run.ensures.logs c.in_ok-run.ensures.new_run c.make_run.ensures.works _ c.make_run.result c.in_ok-run.ensures.claimed.n
+    c.make_run.ensures.stopped c.make_run.ensures.leaves

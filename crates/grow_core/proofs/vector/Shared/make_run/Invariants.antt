@@ -1,8 +1,10 @@
 use Rattle.std.proofs.Common.{◌≡◌, ◌+◌, ◌-◌, ◌≤◌, List, length}
 use Rattle.grow_core.specs.Making.{Makes}
 use Rattle.grow_core.specs.Filled.{IsFilledOf}
-use Rattle.grow_core.specs.Segment.{IsSegmentOf}
+use Rattle.grow_core.specs.Segment.{IsSegmentOf, KnowsSegment}
 use Rattle.grow_core.specs.Begun.{AreBegun}
+use Rattle.grow_core.specs.Logs.{fill_steps}
+use Rattle.grow_core.specs.Steps.{WorksIn, AddsOn}
 use Rattle.grow_core.proofs.vector.Shared.make_run.Given as goal
 
 abbrev pub invariant-loop-i : goal.invariant-loop-i
@@ -12,5 +14,8 @@ invariant-loop-i g l =
     × IsSegmentOf l.self l.segment
     × (l.segment.from ≤ l.run.from + l.i)
     × (l.run.from + l.i ≤ l.segment.end)
-    × AreBegun l.segment (l.run.from + l.i) (l.run.n - l.i) l.begun
+    × KnowsSegment l.hand l.segment
+    × WorksIn l.fn.hand l.hand l.run.from l.i
+    × AddsOn l.self l.fn.hand l.hand l.run l.run.from (λ index. fill_steps index l.run.from l.i)
+    × AreBegun l.self.laid l.segment (l.run.from + l.i) (l.run.n - l.i) l.begun
     × goal.F-IsAlwaysCallable g l.make

@@ -3,8 +3,10 @@ use Rattle.std.specs.List.{FoldsTo}
 use Rattle.std.specs.Vec.Iter.{into_iter_items}
 use Rattle.grow_core.specs.Token.{PlacedView}
 use Rattle.grow_core.specs.Grown.{AreTokensOf}
-use Rattle.grow_core.specs.Segment.{IsSegmentOf}
+use Rattle.grow_core.specs.Segment.{IsSegmentOf, KnowsSegment}
 use Rattle.grow_core.specs.Stretch.{IsCounted}
+use Rattle.grow_core.specs.Logs.{fill_steps}
+use Rattle.grow_core.specs.Steps.{WorksIn, AddsOn}
 use Rattle.grow_core.proofs.vector.Shared.place_run.Given as goal
 
 abbrev pub invariant-loop-place : goal.invariant-loop-place
@@ -17,6 +19,9 @@ invariant-loop-place g l =
     × IsSegmentOf l.self l.segment
     × (l.segment.from ≤ l.place)
     × (l.place ≤ l.segment.end)
+    × KnowsSegment l.hand l.segment
+    × WorksIn l.fn.hand l.hand l.run.from (l.place - l.run.from)
+    × AddsOn l.self l.fn.hand l.hand l.run l.run.from (λ index. fill_steps index l.run.from (l.place - l.run.from))
     × goal.K-IsAlwaysCallable g l.keep
 
 abbrev pub decreases-loop-place : goal.decreases-loop-place

@@ -2,7 +2,8 @@ use Rattle.std.proofs.Common.{ap, subst}
 use Rattle.claim_core.specs.Hand.{seen_size}
 use Rattle.grow_core.specs.Growth.{WonPlace}
 use Rattle.grow_core.proofs.Later.{won_place_after}
-use Rattle.grow_core.proofs.Logs.{run_logged_after, refusal_logged_after}
+use Rattle.grow_core.specs.Logs.{AllFilled}
+use Rattle.grow_core.proofs.Wins.{win_after, refusal_after}
 use Rattle.grow_core.proofs.vector.Shared.push_back.Goals as goal
 
 pub returns-in-Ok-clause-won : goal.returns-in-Ok-clause-won
@@ -12,7 +13,8 @@ returns-in-Ok-clause-won g c =
     (subst (λ v. WonPlace c.args.self.now v c.loop-try.hand c.push_at.new.hand c.in-Ok.placed) kept.5 c.in-Ok.ensures.won)
 
 pub returns-in-Ok-clause-logs : goal.returns-in-Ok-clause-logs
-returns-in-Ok-clause-logs g c = run_logged_after _ _ _ c.loop-try.invariant.6 _ c.in-Ok.ensures.logs
+returns-in-Ok-clause-logs g c = win_after _ _ _ c.loop-try.invariant.6 c.args.self.now _ AllFilled _ c.in-Ok.ensures.logs
 
 pub returns-in-Err-clause-logs_refusal : goal.returns-in-Err-clause-logs_refusal
-returns-in-Err-clause-logs_refusal g c = refusal_logged_after _ _ _ c.loop-try.invariant.6 1 c.in-Err.refused c.in-Err.ensures.logs_refusal
+returns-in-Err-clause-logs_refusal g c =
+    refusal_after _ _ _ c.loop-try.invariant.6 c.args.self.now 1 c.in-Err.refused c.in-Err.ensures.logs_refusal

@@ -16,8 +16,8 @@ returns-clause-answer g c =
     let join = c.join.ensures in
     let p = IfOk-at_ok (λ left. IsLeft says may word c.args.first c.args.low left.hand left.answers) c.left_by-hand.ensures c.requires.lower.0 in
     let q = IfOk-at_ok (λ left. IsLeft says may word middle c.args.high left.hand left.answers) c.left_by-other.ensures c.requires.upper.0 in
-    let left = part_left a.hand b.hand new join.of join.begins join.mine in
-    let right = part_right a.hand b.hand new (join.of ∙ (p.of ∙ sym q.of)) join.also_begins join.mine in
+    let left = part_left a.hand b.hand new join.of join.begins join.begins_log join.mine in
+    let right = part_right a.hand b.hand new (join.of ∙ (p.of ∙ sym q.of)) join.also_begins join.also_begins_log join.mine in
     record {
       of = join.of ∙ p.of;
       shares = omega (arith, join.shares, p.shares, q.shares);

@@ -1,5 +1,6 @@
 use Rattle.std.proofs.Common.{◌∙◌, subst, ap, IsErrAnd}
 use Rattle.grow_core.specs.Vector.{VectorView, IsOpenedAt}
+use Rattle.grow_core.specs.Logs.{LogsMend}
 use Rattle.grow_core.specs.Mend.{TellsValue}
 use Rattle.span_core.specs.Writer.{WriterView}
 use Rattle.span_core.proofs.shared_writer.SharedWriter.mend.Goals as goal
@@ -8,3 +9,8 @@ pub returns-clause-opened : goal.returns-clause-opened
 returns-clause-opened g c =
     subst (λ (v : VectorView _). (x : _) → IsOpenedAt v c.args.place x → IsErrAnd c.mend.result (λ e. TellsValue x e.0))
     (c.deref.ensures ∙ ap (λ (w : WriterView _). w.vector) c.self.view_is) c.mend.ensures.opened
+
+pub returns-clause-mends : goal.returns-clause-mends
+returns-clause-mends g c =
+    subst (λ (w : WriterView _). LogsMend w.vector c.args.place w.hand c.mend.new.hand c.mend.result) c.self.view_is
+    (subst (λ (v : VectorView _). LogsMend v c.args.place c.self.inside.hand c.mend.new.hand c.mend.result) c.deref.ensures c.mend.ensures.mends)

@@ -1,7 +1,0 @@
-use Rattle.std.proofs.Common.{◌≡◌}
-use Rattle.grow_core.specs.Stretch.{values_from}
-use Rattle.grow_core.proofs.copy.publish_from.Given as goal
-
-abbrev pub invariant-loop-i : goal.invariant-loop-i
-invariant-loop-i g l =
-    (l.pen.cells ≡ l.fn.pen.cells) × (l.pen.values ≡ values_from (g.S.Source.values l.source) l.first l.i)

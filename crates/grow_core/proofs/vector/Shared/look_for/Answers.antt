@@ -1,0 +1,73 @@
+use Rattle.std.proofs.Common.{Some, rules, ◌≡◌, ◌<◌, ℕ, List, sym, ap, ◌∙◌, subst, arith}
+use Rattle.seg_core.specs.Segment.{segment_end, segment_start}
+use Rattle.claim_core.specs.Hand.{HandView}
+use Rattle.claim_core.specs.History.{Log, Adds}
+use Rattle.cell_core.specs.Block.{BlockView, block_len}
+use Rattle.cell_core.specs.Shown.{IsLookAt}
+use Rattle.table_core.specs.Table.{IsBlockOf}
+use Rattle.grow_core.specs.Read.{IsShownAt}
+use Rattle.grow_core.specs.Shown.{shown_steps}
+use Rattle.grow_core.specs.Token.{place_in}
+use Rattle.grow_core.specs.Vector.{IsLaid, layout_of}
+use Rattle.grow_core.proofs.Adds.{steps_after}
+use Rattle.grow_core.proofs.Places.{within_length}
+use Rattle.grow_core.proofs.Works.{finds_on, hand_still}
+use Rattle.grow_core.proofs.vector.Shared.look_for.Goals as goal
+
+pub invariant_of-hand : goal.invariant_of-hand
+invariant_of-hand g c =
+    hand_still c.hand.inside.claims c.scout_tied.new.claims c.scout_tied.ensures.finds.keeps c.scout_tied.ensures.finds.rows c.hand.inside.keys c.hand.invariant
+
+-- a place of a later segment is none of the opened list's
+pub returns-in_default-clause-opened : goal.returns-in_default-clause-opened
+returns-in_default-clause-opened g c x is =
+    let f : ℕ = layout_of c.args.self.now in let at = c.locate-segment in
+    let laid : IsLaid c.args.self.now (segment_start f at.result.0) = search rules in
+    let starts = subst (λ (k : ℕ). place_in k at.result.0 at.result.1 ≡ c.args.place) c.layout-layout.ensures at.ensures.offset in
+    let near = within_length c.args.self.now.opened c.args.place (Some x) is in
+    absurd (omega (arith, near, c.laws.ensures.opened, c.laws.ensures.laid, laid, starts))
+
+pub shown_in-requires : goal.shown_in-requires
+shown_in-requires g c =
+    let key = c.in-Some.key in let is = c.in-Some.ensures.key in let f : ℕ = layout_of c.args.self.now in let at = c.locate-segment in
+    let here : IsBlockOf f at.result.0 c.in-Some.block.now = c.in-Some.ensures.block.length in
+    let long : IsBlockOf f key.segment key.block = subst (λ (s : ℕ). IsBlockOf f s key.block) (sym is.at) (subst (λ (b : BlockView). IsBlockOf f at.result.0 b) (sym is.of) here) in
+    let looks : IsLookAt key.block at.result.1 c.look_tied-look.result = subst (λ (b : BlockView). IsLookAt b at.result.1 c.look_tied-look.result) (sym is.of) c.look_tied-look.ensures.look in
+    let starts = subst (λ (k : ℕ). place_in k at.result.0 at.result.1 ≡ c.args.place) c.layout-layout.ensures at.ensures.offset in
+    let ends = subst (λ (k : ℕ). c.args.place < segment_end k at.result.0) c.layout-layout.ensures at.ensures.segment.before in
+    let len = ap block_len is.of in
+    (omega arith, (is.inside, (long, (at.result.1, omega (arith, starts, ends, here, len), looks))))
+
+pub invariant_of-hand-2 : goal.invariant_of-hand-2
+invariant_of-hand-2 g c =
+    let first = c.scout_tied.ensures.finds in let then = c.look_tied-look.ensures.logs.finds in
+    let finds = finds_on c.hand.inside.claims c.scout_tied.new.claims c.look_tied-look.new.claims first then in
+    hand_still c.hand.inside.claims c.look_tied-look.new.claims finds.keeps finds.rows c.hand.inside.keys c.hand.invariant
+
+pub returns-clause-shown : goal.returns-clause-shown
+returns-clause-shown g c =
+    let key = c.in-Some.key in let is = c.in-Some.ensures.key in let f : ℕ = layout_of c.args.self.now in let at = c.locate-segment in
+    let here : IsBlockOf f at.result.0 c.in-Some.block.now = c.in-Some.ensures.block.length in
+    let looks : IsLookAt key.block at.result.1 c.look_tied-look.result = subst (λ (b : BlockView). IsLookAt b at.result.1 c.look_tied-look.result) (sym is.of) c.look_tied-look.ensures.look in
+    let starts = subst (λ (k : ℕ). place_in k at.result.0 at.result.1 ≡ c.args.place) c.layout-layout.ensures at.ensures.offset in
+    let ends = subst (λ (k : ℕ). c.args.place < segment_end k at.result.0) c.layout-layout.ensures at.ensures.segment.before in
+    let len = ap block_len is.of in
+    let spot : place_in f key.segment at.result.1 ≡ c.args.place = ap (λ (s : ℕ). place_in f s at.result.1) is.at ∙ starts in
+    subst (λ (p : ℕ). IsShownAt c.args.self.now p c.shown_in.result) spot (c.shown_in.ensures.shown at.result.1 (omega (arith, starts, ends, here, len)) looks)
+
+pub returns-clause-opened : goal.returns-clause-opened
+returns-clause-opened g c x is =
+    let f : ℕ = layout_of c.args.self.now in let at = c.locate-segment in
+    let laid : IsLaid c.args.self.now (segment_start f at.result.0) = search rules in
+    let starts = subst (λ (k : ℕ). place_in k at.result.0 at.result.1 ≡ c.args.place) c.layout-layout.ensures at.ensures.offset in
+    let near = within_length c.args.self.now.opened c.args.place (Some x) is in
+    absurd (omega (arith, near, c.laws.ensures.opened, c.laws.ensures.laid, laid, starts))
+
+-- the look comes after what the hand found
+pub returns-clause-logs : goal.returns-clause-logs
+returns-clause-logs g c laid =
+    let hand = c.hand.inside.claims in let mid = c.scout_tied.new.claims in let new = c.look_tied-look.new.claims in
+    let adds : Adds mid.log (shown_steps c.args.place c.shown_in.result) new.log =
+    subst (λ (l : List Log). Adds mid.log l new.log) (sym (c.shown_in.ensures.steps c.args.place)) c.look_tied-look.ensures.logs.adds in
+    subst (λ (h : HandView). Adds h.log (shown_steps c.args.place c.shown_in.result) new.log) c.hand.view_is
+    (steps_after hand.log mid.log new.log (shown_steps c.args.place c.shown_in.result) c.scout_tied.ensures.finds.more adds)

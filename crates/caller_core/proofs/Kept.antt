@@ -40,11 +40,11 @@ some_ran {F} {T} {E} step maker v size old new at grown is won =
     (subst (λ (a : AtLeast T). WonAtLeast step maker v size old new a) is won).1
 
 -- a growth up to a size that ran
-pub logs_up_to : {T : Type 0} → (v : VectorView T) (size : ℕ) (old new : HandView) (run : Run) (place : ℕ) → 0 < run.n → run.from ≡ place
-    → LogsWin v (λ index. raise_event index size run) AllFilled run old new → LogsUpTo v size old new place run.n
-logs_up_to v size old new run place some is_from logs = record {
+pub logs_up_to : (size : ℕ) (old new : HandView) (run : Run) (place : ℕ) → 0 < run.n → run.from ≡ place
+    → LogsWin (λ index. raise_event index size run) AllFilled run old new → LogsUpTo size old new place run.n
+logs_up_to size old new run place some is_from logs = record {
   some = λ _. subst
-      (λ (f : ℕ). LogsWin v (λ index. raise_event index size (record { from = f; n = run.n })) AllFilled (record { from = f; n = run.n }) old new)
+      (λ (f : ℕ). LogsWin (λ index. raise_event index size (record { from = f; n = run.n })) AllFilled (record { from = f; n = run.n }) old new)
       is_from logs;
   none = λ none. absurd (omega (arith, none, some));
 }

@@ -53,13 +53,13 @@ pub record WinsPlaces {T : Type 0} (n : ℕ) (old new : CallerView T) (place : �
   pub won : WonPlaces n old.hand new.hand run
 
 -- the history gets the claim of n places from this one on, and what became of each
-abbrev pub LogsRunFrom : {T : Type 0} → VectorView T → Fate → ℕ → HandView → HandView → ℕ → Type 0
-LogsRunFrom vector fate n old new place = LogsGrowth vector fate old new (record { from = place; n = n })
+abbrev pub LogsRunFrom : Fate → ℕ → HandView → HandView → ℕ → Type 0
+LogsRunFrom fate n old new place = LogsGrowth fate old new (record { from = place; n = n })
 
 -- it gets the claim up to a size of n places from this one on, and their fills; or that the size, which this is, was enough
-pub record LogsUpTo {T : Type 0} (vector : VectorView T) (size : ℕ) (old new : HandView) (place n : ℕ) : Type 0 where
+pub record LogsUpTo (size : ℕ) (old new : HandView) (place n : ℕ) : Type 0 where
   pub some : 0 < n
-      → LogsWin vector (λ index. raise_event index size (record { from = place; n = n })) AllFilled (record { from = place; n = n }) old new
+      → LogsWin (λ index. raise_event index size (record { from = place; n = n })) AllFilled (record { from = place; n = n }) old new
   pub none : n ≡ 0 → AddsEvents old.log (enough_event size place ∷ []) new.log
 
 -- the caller mended the place: its last token has the place and the value

@@ -43,10 +43,10 @@ impl<T: Copy> Caller<T> {
             → IsErrAnd result SaysFull }
         // The history gets the claim of the run and what became of its places, or the event whose reply the refusal
         // is.
-        ensures logs { IfOk result (LogsRunFrom self.old.vector AllFilled
+        ensures logs { IfOk result (LogsRunFrom AllFilled
             (length values.now) self.old.hand self.new.hand) }
         ensures logs_refusal { IfErr result
-            (LogsRefusal self.old.vector (length values.now) self.old.hand self.new.hand) }
+            (LogsRefusal (length values.now) self.old.hand self.new.hand) }
         ensures kept { KeepsCaller self.old self.new }
         ensures last { OnErr result (self.new.last ≡ self.old.last) }
     {
@@ -64,9 +64,9 @@ impl<T: Copy> Caller<T> {
         // The history gets the claim of the run and what became of its places, or the event whose reply the refusal
         // is.
         ensures logs { IfOk result
-            (LogsRunFrom self.old.vector AllFilled n self.old.hand self.new.hand) }
+            (LogsRunFrom AllFilled n self.old.hand self.new.hand) }
         ensures logs_refusal { IfErr result
-            (LogsRefusal self.old.vector n self.old.hand self.new.hand) }
+            (LogsRefusal n self.old.hand self.new.hand) }
         ensures kept { KeepsCaller self.old self.new }
         ensures last { OnErr result (self.new.last ≡ self.old.last) }
     {
@@ -87,9 +87,9 @@ impl<T: Drop> Caller<T> {
             → IsErrAnd result SaysFull }
         // The history gets the claim of the run and what became of its places, or the event whose reply the refusal
         // is.
-        ensures logs { IfOk result (LogsRunFrom self.old.vector AllFilled
+        ensures logs { IfOk result (LogsRunFrom AllFilled
             (length (S.values source.now)) self.old.hand self.new.hand) }
-        ensures logs_refusal { IfErr result (LogsRefusal self.old.vector
+        ensures logs_refusal { IfErr result (LogsRefusal
             (length (S.values source.now)) self.old.hand self.new.hand) }
         ensures kept { KeepsCaller self.old self.new }
         ensures last { OnErr result (self.new.last ≡ self.old.last) }
@@ -113,9 +113,9 @@ impl<T: Drop> Caller<T> {
         // The history gets the claim of the run and what became of its places, or the event whose reply the refusal
         // is.
         ensures logs { IfOk result
-            (LogsRunFrom self.old.vector AllFilled n self.old.hand self.new.hand) }
+            (LogsRunFrom AllFilled n self.old.hand self.new.hand) }
         ensures logs_refusal { IfErr result
-            (LogsRefusal self.old.vector n self.old.hand self.new.hand) }
+            (LogsRefusal n self.old.hand self.new.hand) }
         ensures kept { KeepsCaller self.old self.new }
         ensures last { OnErr result (self.new.last ≡ self.old.last) }
     {
@@ -141,9 +141,9 @@ impl<T: Drop> Caller<T> {
         // The history gets the claim of the run and what became of its places, or the event whose reply the refusal
         // is.
         ensures logs { IfOk result
-            (λ (place, n). LogsUpTo self.old.vector size self.old.hand self.new.hand place n) }
+            (λ (place, n). LogsUpTo size self.old.hand self.new.hand place n) }
         ensures logs_refusal { IfErr result
-            (LogsRefusalUpTo self.old.vector size self.old.hand self.new.hand) }
+            (LogsRefusalUpTo size self.old.hand self.new.hand) }
         ensures kept { KeepsCaller self.old self.new }
         ensures last { OnErr result (self.new.last ≡ self.old.last) }
     {
@@ -168,9 +168,9 @@ impl<T: Drop> Caller<T> {
         // The history gets the claim of the run and what became of its places, or the event whose reply the refusal
         // is.
         ensures logs { IfOk result
-            (LogsRunFrom self.old.vector AllBroken n self.old.hand self.new.hand) }
+            (LogsRunFrom AllBroken n self.old.hand self.new.hand) }
         ensures logs_refusal { IfErr result
-            (LogsRefusal self.old.vector n self.old.hand self.new.hand) }
+            (LogsRefusal n self.old.hand self.new.hand) }
         ensures kept { KeepsCaller self.old self.new }
         ensures last { self.new.last ≡ self.old.last }
     {

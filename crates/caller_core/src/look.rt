@@ -22,8 +22,8 @@ fn address_at<'a, T: Element>(
     ensures below { IfOk result (λ _. place < seen_size hand.new) }
     ensures refused { IfErr result (IsDueAt vector.now place hand.old hand.new) }
     ensures in_range { place < seen_size hand.old → IfErr result IsInRange }
-    ensures looks { IfOk result (λ _. LogsValue vector.now place hand.old hand.new) }
-    ensures looks_refusal { IfErr result (LogsNoValue vector.now place hand.old hand.new) }
+    ensures looks { IfOk result (λ _. LogsValue place hand.old hand.new) }
+    ensures looks_refusal { IfErr result (LogsNoValue place hand.old hand.new) }
     ensures hand { SeesMore hand.old hand.new }
 {
     let no_token: Option<&'a Placed<T>> = None;
@@ -44,8 +44,8 @@ fn run_at<T: Element>(
     ensures refused { IfErr result (IsDueAt vector.now place hand.old hand.new) }
     ensures in_range { place < seen_size hand.old → IfErr result IsInRange }
     ensures looks { IfOk result (λ _. (hand.new ≡ hand.old)
-        ⊎ LogsValue vector.now place hand.old hand.new) }
-    ensures looks_refusal { IfErr result (LogsNoValue vector.now place hand.old hand.new) }
+        ⊎ LogsValue place hand.old hand.new) }
+    ensures looks_refusal { IfErr result (LogsNoValue place hand.old hand.new) }
     ensures hand { SeesMore hand.old hand.new }
 {
     let values = vector.shown_run(place);
@@ -79,8 +79,8 @@ impl<T: Element> Caller<T> {
             (IsDueAt self.old.vector place self.old.hand self.new.hand) }
         ensures in_range { place < seen_size self.old.hand → IfErr result IsInRange }
         // The history gets the look, with what it returned.
-        ensures looks { IfOk result (λ _. LogsValue self.old.vector place self.old.hand self.new.hand) }
-        ensures looks_refusal { IfErr result (LogsNoValue self.old.vector place self.old.hand self.new.hand) }
+        ensures looks { IfOk result (λ _. LogsValue place self.old.hand self.new.hand) }
+        ensures looks_refusal { IfErr result (LogsNoValue place self.old.hand self.new.hand) }
         ensures kept { KeepsCaller self.old self.new }
         ensures last { self.new.last ≡ self.old.last }
     {
@@ -96,8 +96,8 @@ impl<T: Element> Caller<T> {
         ensures in_range { place < seen_size self.old.hand → IfErr result IsInRange }
         // Values that a walk finds add nothing to the history. Otherwise it gets the look, with what it returned.
         ensures looks { IfOk result (λ _. (self.new.hand ≡ self.old.hand)
-            ⊎ LogsValue self.old.vector place self.old.hand self.new.hand) }
-        ensures looks_refusal { IfErr result (LogsNoValue self.old.vector place self.old.hand self.new.hand) }
+            ⊎ LogsValue place self.old.hand self.new.hand) }
+        ensures looks_refusal { IfErr result (LogsNoValue place self.old.hand self.new.hand) }
         ensures kept { KeepsCaller self.old self.new }
         ensures last { self.new.last ≡ self.old.last }
     {

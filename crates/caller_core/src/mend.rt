@@ -2,7 +2,8 @@
 ghost use Rattle.std.specs.Prelude.{◌≡◌, ◌<◌, ◌↔◌, IfErr, OnOk, OnErr, IsErrOf};
 ghost use Rattle.claim_core.specs.Hand.{seen_size};
 ghost use Rattle.grow_core.specs.Vector.{limit_of};
-ghost use Rattle.grow_core.specs.Logs.{LogsLaid, LogsNoMend, mend_steps};
+ghost use Rattle.claim_core.specs.History.{Adds};
+ghost use Rattle.grow_core.specs.Logs.{LogsNoMend, mend_steps};
 ghost use Rattle.grow_core.specs.Mend.{IsMendDue, IsSeen};
 ghost use Rattle.caller_core.specs.Caller.{KeepsCaller};
 ghost use Rattle.caller_core.specs.Grows.{Mends};
@@ -21,9 +22,9 @@ impl<T: Drop> Caller<T> {
             → IfErr result (λ (error, _). IsSeen error) }
         // The history gets the look at a place that is not below the size, the mend and its fill, or the look that found the
         // place pending or filled.
-        ensures mends { OnOk result (LogsLaid self.old.vector place self.old.hand self.new.hand
-            (mend_steps (limit_of self.old.vector) place)) }
-        ensures mends_refusal { IfErr result (LogsNoMend self.old.vector place self.old.hand self.new.hand) }
+        ensures mends { OnOk result
+            (Adds self.old.hand.log (mend_steps (limit_of self.old.vector) place) self.new.hand.log) }
+        ensures mends_refusal { IfErr result (LogsNoMend place self.old.hand self.new.hand) }
         ensures kept { KeepsCaller self.old self.new }
         ensures last { OnErr result (self.new.last ≡ self.old.last) }
     {

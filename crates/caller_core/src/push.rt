@@ -18,8 +18,8 @@ impl<T: Drop> Caller<T> {
             (Refuses self.old.vector 1 value self.old.hand self.new.hand) }
         ensures full { HasNoRoom self.old.vector 1 self.old.hand → IsErrAnd result SaysFull }
         // The history gets the claim of the place and its fill, or the event whose reply the refusal is.
-        ensures logs { IfOk result (LogsPush self.old.vector self.old.hand self.new.hand) }
-        ensures logs_refusal { IfErr result (LogsRefusal self.old.vector 1 self.old.hand self.new.hand) }
+        ensures logs { IfOk result (LogsPush self.old.hand self.new.hand) }
+        ensures logs_refusal { IfErr result (LogsRefusal 1 self.old.hand self.new.hand) }
         ensures kept { KeepsCaller self.old self.new }
         ensures last { OnErr result (self.new.last ≡ self.old.last) }
     {

@@ -39,9 +39,9 @@ fn copy_at<T: Copy>(
     // The last place is read by its token, which adds nothing to the history. A look at any other place is added.
     ensures token { IsLastAt place last.now → hand.new ≡ hand.old }
     ensures looks { (IsLastAt place last.now → ⊥)
-        → IfOk result (λ _. LogsValue vector.now place hand.old hand.new) }
+        → IfOk result (λ _. LogsValue place hand.old hand.new) }
     ensures looks_refusal { (IsLastAt place last.now → ⊥)
-        → IfErr result (LogsNoValue vector.now place hand.old hand.new) }
+        → IfErr result (LogsNoValue place hand.old hand.new) }
     ensures hand { SeesMore hand.old hand.new }
 {
     let at = vector.at(hand, place, token_of(last, place))?;
@@ -66,9 +66,9 @@ impl<T: Copy> Caller<T> {
         // The last place is read by its token, which adds nothing to the history. A look at any other place is added.
         ensures token { IsLastAt place self.old.last → self.new.hand ≡ self.old.hand }
         ensures looks { (IsLastAt place self.old.last → ⊥)
-            → IfOk result (λ _. LogsValue self.old.vector place self.old.hand self.new.hand) }
+            → IfOk result (λ _. LogsValue place self.old.hand self.new.hand) }
         ensures looks_refusal { (IsLastAt place self.old.last → ⊥)
-            → IfErr result (LogsNoValue self.old.vector place self.old.hand self.new.hand) }
+            → IfErr result (LogsNoValue place self.old.hand self.new.hand) }
         ensures kept { KeepsCaller self.old self.new }
         ensures last { self.new.last ≡ self.old.last }
     {

@@ -13,7 +13,7 @@ use denote.Param.Send.{IsSend, IsSync, part_keyless, sendable}
 use denote.Struct.Owning
 use denote.Struct.Struct
 use Rattle.core.proofs.atomic.Sent.{chain-Keyless}
-use Rattle.cell_core.specs.Slot.{Names, broken_once, Phase, stage, free, begun, busy, full, broken, broken_by_owner, Turn, place, told, tie, lent, cell, cells, kept, known, sighted, setting, right_of, gained, slot_owned, pen_owned}
+use Rattle.cell_core.specs.Slot.{Names, broken_once, Phase, stage, free, begun, busy, full, broken, broken_by_owner, Turn, place, ended_or_seatless, told, tie, lent, cell, cells, kept, known, sighted, setting, right_of, gained, slot_owned, pen_owned}
 use Rattle.tie_core.specs.Tie.{Tie, Stage, seat_of, seat_at}
 use Rattle.cell_core.specs.Slot.{Rest, resting}
 use Rattle.cell_core.specs.Laid.{Extent, rests, along, along_lent, laid, laid_lent}
@@ -36,13 +36,17 @@ seat_keyless None s = tt
 seat_keyless (Some t) s = seat_of_keyless t t.fixed s
 
 module _ (R : RattleType) (γ : Names) where
+  ended_keyless : (by_time : Bool) → Keyless (ended_or_seatless R γ by_time)
+  ended_keyless true = tt
+  ended_keyless false = λ _. tt
+
   told_keyless : (s : Phase R.Denot) → Keyless (told R γ s)
   told_keyless free = (tt, tt)
   told_keyless begun = (tt, (λ _. tt))
   told_keyless busy = tt
   told_keyless (full x) = (tt, tt)
   told_keyless broken = (tt, (tt, tt))
-  told_keyless broken_by_owner = ((tt, tt), (λ _. tt))
+  told_keyless broken_by_owner = ((tt, tt), ended_keyless)
 
   tie_keyless : (α : Lft) (δ : GName) (b e : ℕ) (s : Phase R.Denot) → Keyless (tie R γ α δ b e s)
   tie_keyless α δ b e free = tt

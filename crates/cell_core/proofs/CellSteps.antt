@@ -1,5 +1,5 @@
 -- The effect of each step on a raw cell. Assumes `Logic`.
-use Rattle.std.proofs.Common.{Bool, true, false, ◌≡◌, ◌≢◌, ℕ, ◌+◌, ◌-◌, ◌<◌, eqb, [], ◌∷◌, sym, refl, ap, ◌∙◌, subst, arith}
+use Rattle.std.proofs.Common.{Bool, true, false, ◌≡◌, ◌≢◌, ℕ, zero, suc, ◌+◌, ◌-◌, ◌<◌, ◌≤◌, eqb, [], ◌∷◌, sym, refl, ap, ◌∙◌, subst, arith}
 use Rattle.std.specs.Prelude.{Option, Some, None}
 use seplogic.Ra.Ura.{Ura}
 use lib.Bits.{bit_and, bit_or}
@@ -20,7 +20,7 @@ use contract.Monad as monad
 use Rattle.core.proofs.once.Turns.{one_value}
 use Rattle.core.proofs.cell.Borrows.{by_one}
 use Rattle.cell_core.specs.Member.{HasNames, IsStateOf, MayBeStateOf, IsEpochOf, unfilled, known_as}
-use Rattle.cell_core.specs.Slot.{Names, IsPlain, HasNoSeat, ShowsOwner, fact, writer_state, writer_stage, free, begun, busy, full, broken, broken_by_owner, state, stage, broken_mark, was_broken, broken_once, content, mark, written, place, auths, unset, setting, fill_added, break_added, over, broken_unset, reserved, told, seat, inside, Room, tie, lent, bare, cell, Right, FirstRight, gained, won, sighted, sights}
+use Rattle.cell_core.specs.Slot.{Names, IsPlain, HasNoSeat, mender_sought, SeeksBroken, fact, writer_state, writer_stage, free, begun, busy, full, broken, broken_by_owner, state, stage, broken_mark, was_broken, broken_once, content, mark, written, place, auths, unset, setting, fill_added, break_added, over, broken_unset, ended_or_seatless, reserved, told, seat, inside, Room, tie, lent, bare, cell, Right, FirstRight, gained, won, sighted, sights}
 use Rattle.tie_core.specs.Tie.{Tie, Stage, Idle, Begun, Mending, Filled, Broken, stage_number, IsHeld, IsTied, Step, begins as beginning, looks as looking, fills as filling, breaks as breaking, mends as mending, Shows, Moves, Gives, HasMade, Made, seat_at, left, update}
 use Rattle.cell_core.proofs.WordSteps.{S, Next, Law}
 
@@ -73,6 +73,14 @@ made_filled first n m at has = let from = held_by first n m.0 at has.0.0 has.0.1
 
 pub made_broken : (first : Bool) (n : ℕ) (m : Made) → n ≡ writer_state first → HasMade breaking n (Some m) → Some m ≡ Some (writer_stage first, Broken)
 made_broken first n m at has = let from = held_by first n m.0 at has.0.0 has.0.1 in let is : m ≡ (writer_stage first, Broken) = λ i. (from i, has.0.2 i) in ap Some is
+
+-- a mender of a cell with a seat found what it sought exactly if it found a broken cell
+pub seeks_broken : (n : ℕ) → SeeksBroken n (mender_sought n)
+seeks_broken zero = ((λ high. absurd (let z : 3 < 0 = high in omega (arith, z))), λ low same. absurd (let z : 0 ≡ 5 = same in omega (arith, z)))
+seeks_broken (suc zero) = ((λ high. absurd (let z : 3 < 1 = high in omega (arith, z))), λ low same. absurd (let z : 1 ≡ 5 = same in omega (arith, z)))
+seeks_broken (suc (suc zero)) = ((λ high. absurd (let z : 3 < 2 = high in omega (arith, z))), λ low same. absurd (let z : 2 ≡ 5 = same in omega (arith, z)))
+seeks_broken (suc (suc (suc zero))) = ((λ high. absurd (let z : 3 < 3 = high in omega (arith, z))), λ low same. absurd (let z : 3 ≡ 5 = same in omega (arith, z)))
+seeks_broken (suc (suc (suc (suc n)))) = ((λ high. refl), λ low same. absurd (let z : suc (suc (suc (suc n))) ≤ 3 = low in omega (arith, z)))
 
 -- a formula, and that a step found this state
 abbrev pub found_at : Fml → ℕ → ℕ → Fml
@@ -272,19 +280,16 @@ module _ {M : Type 1} {𝓤 : Ura M} (𝓛 : Logic 𝓤) (R : RattleType) (γ : 
   shows_stage broken = omega arith
   shows_stage broken_by_owner = omega arith
 
-  stays_unless : (s : S R) → state s ≢ 5 → moved mending s s
-  stays_unless s other = (shows_stage s, (λ is. absurd (other is)), λ _. refl)
-
   abbrev mending_by : ℕ → ℕ
   mending_by c = bit_and c (15 - 4)
 
-  mends_at : (s : S R) → ⟦ Cell s ⟧ ⊢ ex 𝓤 (Leaves (moved mending) 5 mending_by s)
-  mends_at free = misses (moved mending) 5 mending_by free refl refl (stays_unless free (λ z. omega arith))
-  mends_at begun = misses (moved mending) 5 mending_by begun refl refl (stays_unless begun (λ z. omega arith))
-  mends_at busy = misses (moved mending) 5 mending_by busy refl refl (stays_unless busy (λ z. omega arith))
-  mends_at (full x) = misses (moved mending) 5 mending_by (full x) refl refl (stays_unless (full x) (λ z. omega arith))
-  mends_at broken = hits (moved mending) 5 mending_by broken ⟦ Cell broken ⟧ refl refl (shows_stage broken, (λ _. refl), λ other. absurd (other refl)) unbreaks
-  mends_at broken_by_owner = misses (moved mending) 5 mending_by broken_by_owner refl refl (stays_unless broken_by_owner (λ z. omega arith))
+  mends_at : (s : S R) → ⟦ Cell s ⟧ ⊢ ex 𝓤 (Leaves any 5 mending_by s)
+  mends_at free = misses any 5 mending_by free refl refl tt
+  mends_at begun = misses any 5 mending_by begun refl refl tt
+  mends_at busy = misses any 5 mending_by busy refl refl tt
+  mends_at (full x) = misses any 5 mending_by (full x) refl refl tt
+  mends_at broken = hits any 5 mending_by broken ⟦ Cell broken ⟧ refl refl tt unbreaks
+  mends_at broken_by_owner = misses any 5 mending_by broken_by_owner refl refl tt
 
   -- what a step that needs nothing does
   alone : (rel : S R → S R → Type 0) (m : ℕ) (g : ℕ → ℕ) → ((s : S R) → ⟦ Cell s ⟧ ⊢ ex 𝓤 (Leaves rel m g s)) → BareLaw rel g (Won m) (emp 𝓤)
@@ -293,33 +298,44 @@ module _ {M : Type 1} {𝓤 : Ura M} (𝓛 : Logic 𝓤) (R : RattleType) (γ : 
   pub begins : IsPlain γ → Law 𝓛 R α b γ δ e (λ c. bit_or c 1) (Won 0) (emp 𝓤)
   begins plain = untied any beginning_by (Won 0) (emp 𝓤) plain (alone any 0 beginning_by (begins_at plain))
 
-  pub mends_bare : BareLaw (moved mending) (λ c. bit_and c (15 - 4)) (Won 5) (emp 𝓤)
-  mends_bare = alone (moved mending) 5 mending_by mends_at
-
-  -- only a cell without a seat is one that an owner broke
-  shows_owner : (s : S R) → ⟦ Cell s ⟧ ⊢ guard 𝓤 (ShowsOwner γ.tied (state s)) ⟦ Cell s ⟧
-  shows_owner free = qed 𝓛 (‵ (Cell free) ∷ []) ∵ check ! (λ more filled other. absurd (let l : 1 < 0 = more in omega (arith, l))) $ done !
-  shows_owner begun = qed 𝓛 (‵ (Cell begun) ∷ []) ∵ check ! (λ more filled other. absurd (let l : 1 < 0 = more in omega (arith, l))) $ done !
-  shows_owner busy = qed 𝓛 (‵ (Cell busy) ∷ []) ∵ check ! (λ more filled other. absurd (let l : 1 < 1 = more in omega (arith, l))) $ done !
-  shows_owner (full x) = qed 𝓛 (‵ (Cell (full x)) ∷ []) ∵ check ! (λ more filled other. absurd (filled refl)) $ done !
-  shows_owner broken = qed 𝓛 (‵ (Cell broken) ∷ []) ∵ check ! (λ more filled other. absurd (other refl)) $ done !
-  shows_owner broken_by_owner = qed 𝓛 (‵ (Cell broken_by_owner) ∷ []) ∵ fsplit3 ! $ move ! (1 ∷ []) $ fsplit ! $ move ! (1 ∷ []) $ fpick ! (λ none. check ! (λ more filled other. none) $
-      -- [true; what a broken cell has; the names; the room]
-      fpack ! (HasNoSeat γ.tied) (λ _. ftrue) none $ move ! (1 ∷ 0 ∷ []) $ fjoin ! $ move ! (1 ∷ 0 ∷ 2 ∷ []) $ fjoin3 ! $ done !)
-
-  -- what a mender gains, and whether an owner broke the cell
-  abbrev pub Taken : ℕ → Fml
-  Taken n = fsep (Won 5 n) (fact (ShowsOwner γ.tied n))
-
-  pub mends_shown : BareLaw (moved mending) (λ c. bit_and c (15 - 4)) Taken (emp 𝓤)
-  mends_shown s = let N : S R → Pr = BareNext (moved mending) mending_by Taken s in let n : ℕ = state s in
-      qed 𝓛 (‵ (Cell s) ∷ raw (emp 𝓤) ∷ []) ∵ suffices ! _ (upd_i 𝓤 (ex 𝓤 N)) $ keep ! (0 ∷ []) $
-      use1 𝓛 (given (ShowsOwner γ.tied n) (‵ (Cell s))) (shows_owner s) $ learn ! (λ so.
-      use1 𝓛 (some (λ (z : S R). given ((state z ≡ mending_by n) × moved mending s z) (‵ (Cell z) ⊛ ‵ (Won 5 n)))) (mends_at s) $ pick ! (λ z. learn ! (λ is. split ! $ show ! N z $ check ! is $
-      nothing ! $ fpack ! (ShowsOwner γ.tied n) (λ _. ftrue) so $ move ! (2 ∷ 0 ∷ []) $ fjoin ! $ move ! (1 ∷ 0 ∷ []) $ done !)))
-
   pub mends : IsPlain γ → Law 𝓛 R α b γ δ e (λ c. bit_and c (15 - 4)) (Won 5) (emp 𝓤)
-  mends plain = untied (moved mending) mending_by (Won 5) (emp 𝓤) plain mends_bare
+  mends plain = untied any mending_by (Won 5) (emp 𝓤) plain (alone any 5 mending_by mends_at)
+
+  -- the step of a mender, which takes a broken cell whoever broke it; the cell has a seat
+  abbrev taking_by : ℕ → ℕ
+  taking_by c = bit_and c (15 - 12)
+
+  -- what it gains
+  abbrev pub Taken : ℕ → Fml
+  Taken n = Won (mender_sought n) n
+
+  stays_unless : (s : S R) → state s ≤ 3 → moved mending s s
+  stays_unless s low = (shows_stage s, (λ high. absurd (let z : 3 < state s = high in omega (arith, z, low))), λ _. refl)
+
+  takes : (s : S R) → 3 < state s → moved mending s busy
+  takes s high = (shows_stage s, (λ _. refl), λ low. absurd (let z : state s ≤ 3 = low in omega (arith, z, high)))
+
+  -- the epoch of a cell with a seat that an owner broke has ended
+  over_of : (t : Tie) → γ.tied ≡ Some t → t.fixed ≡ None → (by_time : Bool) → ⟦ ended_or_seatless R γ by_time ⟧ ⊢ ⟦ over R γ ⟧
+  over_of t is seated true = id⊢ 𝓤 _
+  over_of t is seated false = qed 𝓛 (‵ (ended_or_seatless R γ false) ∷ []) ∵ fpick ! (λ none. absurd (subst HasNoSeat is none seated))
+
+  unbreaks_seated : (t : Tie) → γ.tied ≡ Some t → t.fixed ≡ None → ⟦ Cell broken_by_owner ⟧ ⊢ ⟦ Cell busy ⟧ ∗ ⟦ Right R γ α δ b e ⟧
+  unbreaks_seated t is seated = qed 𝓛 (‵ (Cell broken_by_owner) ∷ []) ∵ fsplit3 ! $ move ! (1 ∷ []) $ fsplit ! $ move ! (1 ∷ []) $ fpick ! (λ by_time.
+      use1 𝓛 (‵ (over R γ)) (over_of t is seated by_time) $ move ! (1 ∷ []) $ fsplit ! $ drop ! $
+      -- [the right to set; the epoch has ended; the names; the room]
+      move ! (2 ∷ 1 ∷ 0 ∷ []) $ by ! seized)
+
+  takes_at : (t : Tie) → γ.tied ≡ Some t → t.fixed ≡ None → (s : S R) → ⟦ Cell s ⟧ ⊢ ex 𝓤 (BareNext (moved mending) taking_by Taken s)
+  takes_at t is seated free = misses (moved mending) 5 taking_by free refl refl (stays_unless free (omega arith))
+  takes_at t is seated begun = misses (moved mending) 5 taking_by begun refl refl (stays_unless begun (omega arith))
+  takes_at t is seated busy = misses (moved mending) 5 taking_by busy refl refl (stays_unless busy (omega arith))
+  takes_at t is seated (full x) = misses (moved mending) 5 taking_by (full x) refl refl (stays_unless (full x) (omega arith))
+  takes_at t is seated broken = hits (moved mending) 5 taking_by broken ⟦ Cell broken ⟧ refl refl (takes broken (omega arith)) unbreaks
+  takes_at t is seated broken_by_owner = hits (moved mending) 9 taking_by broken_by_owner ⟦ Cell broken_by_owner ⟧ refl refl (takes broken_by_owner (omega arith)) (unbreaks_seated t is seated)
+
+  pub mends_seated : (t : Tie) → γ.tied ≡ Some t → t.fixed ≡ None → BareLaw (moved mending) (λ c. bit_and c (15 - 12)) Taken (emp 𝓤)
+  mends_seated t is seated s = qed 𝓛 (‵ (Cell s) ∷ raw (emp 𝓤) ∷ []) ∵ suffices ! _ (upd_i 𝓤 (ex 𝓤 (BareNext (moved mending) taking_by Taken s))) $ keep ! (0 ∷ []) $ by ! (takes_at t is seated s)
 
   -- nobody else may set the first name of a cell whose writer has the right to
   two_rights : (v : Gv) (Z : Pr) → ⟦ unset R γ ⟧ ∗ ⟦ unset R γ ⟧ ∗ A.auth γ.value_name v ⊢ upd 𝓤 Z

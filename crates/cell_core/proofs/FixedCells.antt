@@ -1,5 +1,5 @@
 -- A cell that nobody shares gives up its seat, and an update runs at its stage. Assumes `Logic`.
-use Rattle.std.proofs.Common.{◌≡◌, ℕ, ◌<◌, List, [], ◌∷◌, length, set, get_or-set_same, sym, refl, ap, ◌∙◌, subst}
+use Rattle.std.proofs.Common.{Bool, false, ◌≡◌, ℕ, ◌<◌, List, [], ◌∷◌, length, set, get_or-set_same, sym, refl, ap, ◌∙◌, subst}
 use Rattle.std.specs.Prelude.{Option, Some, None}
 use mathlib.Core.List.{not-mem-nil}
 use seplogic.Ra.Ura.{Ura}
@@ -10,7 +10,7 @@ use types.Kit.{‵, raw, ◌⊛◌, given, later, updating, await, now, ◌$◌,
 use denote.RattleType.{RattleType}
 use denote.Steps.{nothing}
 use Rattle.tie_core.specs.Tie.{Tie, Stage, Begun, Broken, looks, Moves, IsTied, fixed_at, seat_at, left, update}
-use Rattle.cell_core.specs.Slot.{Names, Phase, Rest, HasNoSeat, cell_in, free, begun, busy, full, broken, broken_by_owner, state, stage, told}
+use Rattle.cell_core.specs.Slot.{Names, Phase, Rest, HasNoSeat, cell_in, free, begun, busy, full, broken, broken_by_owner, state, stage, ended_or_seatless, told}
 use Rattle.cell_core.specs.Laid.{lying}
 use Rattle.cell_core.specs.Fixed.{FixesOne, fixed_cell, fixed_in, stage_in}
 use Rattle.cell_core.proofs.RestParts.{fixed_seat, no_seat}
@@ -87,7 +87,7 @@ module _ {M : Type 1} {𝓤 : Ura M} (𝓛 : Logic 𝓤) where
       told_fixed γ (full x) is = id⊢ 𝓤 _
       told_fixed γ broken is = id⊢ 𝓤 _
       told_fixed γ broken_by_owner is = qed 𝓛 (‵ (told R γ broken_by_owner) ∷ []) ∵ fsplit ! $ keep ! (0 ∷ []) $
-          nothing ! $ fpack ! (HasNoSeat (fixed_at γ.tied Broken)) (λ _. ftrue) (no_seat γ.tied Broken) $ move ! (1 ∷ 0 ∷ []) $ fjoin ! $ done !
+          nothing ! $ fpack ! (HasNoSeat (fixed_at γ.tied Broken)) (λ _. ftrue) (no_seat γ.tied Broken) $ fpack ! Bool (ended_or_seatless R (fixed_cell γ Broken)) false $ move ! (1 ∷ 0 ∷ []) $ fjoin ! $ done !
 
       -- a cell gives up its seat, and the update runs at its stage
       pub fixes : (γ : Names) (u : Rest R.Denot) (c e : ℕ) (q : Share) → γ.tied ≡ Some t → let a : Stage = stage u.1 in

@@ -18,6 +18,7 @@ mod LaidParts
 mod LaidMade
 mod FixedCells
 mod Untied
+mod NewTies
 mod RunParts
 mod RunFields
 mod StageRows

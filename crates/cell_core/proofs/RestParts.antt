@@ -21,7 +21,7 @@ use denote.Param.{param, layout}
 use denote.Param.Laws.{Laws, param_laws}
 use denote.Struct.Members.{Member}
 use Rattle.core.proofs.cell.Inside.{spread}
-use Rattle.cell_core.specs.Slot.{Names, HasNoSeat, cell_in, Phase, free, begun, busy, full, broken, broken_by_owner, state, Lies, Rest, fact, place, resting, mark, broken_mark, broken_once, auths, unset, settable, written, was_broken}
+use Rattle.cell_core.specs.Slot.{Names, HasNoSeat, cell_in, Phase, free, begun, busy, full, broken, broken_by_owner, state, Lies, Rest, fact, place, resting, mark, broken_mark, broken_once, auths, unset, settable, ended_or_seatless, written, was_broken}
 use Rattle.cell_core.specs.Laid.{IsAnother, IsFixedAt, lying}
 use Rattle.cell_core.specs.Member.{IsUnset}
 use Rattle.tie_core.specs.Tie.{Tie, Stage, Idle, Filled, Broken, seat_at, fixed_at}
@@ -206,7 +206,7 @@ module _ {M : Type 1} {𝓤 : Ura M} (𝓛 : Logic 𝓤) (R : RattleType) where
       -- [the right to set; the names; the old ones; the room]
       move ! (1 ∷ []) $ fsplit ! $ move ! (1 ∷ []) $ fpick ! (λ once. use1 𝓛 (later (‵ (broken_once γ'.broken_name true) ⊛ ‵ (was_broken γ'.broken_name))) (sets_broken γ'.broken_name once) $ await ! tt $ split ! $ now ! $ fpack ! Bool (broken_once γ'.broken_name) true $
       -- [the name of a break; broken; the value's name; the right to set; the old ones; the room]
-      move ! (2 ∷ 0 ∷ []) $ fjoin ! $ move ! (1 ∷ 2 ∷ []) $ fjoin ! $ nothing ! $ fpack ! (HasNoSeat γ'.tied) (λ _. ftrue) (subst HasNoSeat (sym new.2) (no_seat γ.tied Broken)) $ move ! (1 ∷ 0 ∷ []) $ fjoin ! $
+      move ! (2 ∷ 0 ∷ []) $ fjoin ! $ move ! (1 ∷ 2 ∷ []) $ fjoin ! $ nothing ! $ fpack ! (HasNoSeat γ'.tied) (λ _. ftrue) (subst HasNoSeat (sym new.2) (no_seat γ.tied Broken)) $ fpack ! Bool (ended_or_seatless R γ') false $ move ! (1 ∷ 0 ∷ []) $ fjoin ! $
       -- [what goes with the phase; the value's name and that of a break; the old ones; the room]
       use0 𝓛 (‵ (seat_at γ'.tied Broken)) (seated γ γ' Broken new.2) $ move ! (1 ∷ 0 ∷ []) $ fjoin ! $ move ! (1 ∷ 0 ∷ []) $ fjoin ! $
       nothing ! $ fpack ! (Lies R None broken_by_owner) (λ _. ftrue) refl $ move ! (1 ∷ 0 ∷ []) $ fjoin ! $

@@ -1,5 +1,5 @@
 -- Cells that nobody shares give up their seats. Assumes `Logic`.
-use Rattle.std.proofs.Common.{Bool, ◌≡◌, ℕ, zero, suc, ◌+◌, ◌*◌, ◌<◌, ◌≤◌, List, [], ◌∷◌, ◌++◌, length, take, drop, length-drop, sym, refl, ap, ◌∙◌, subst, arith}
+use Rattle.std.proofs.Common.{Bool, false, ◌≡◌, ℕ, zero, suc, ◌+◌, ◌*◌, ◌<◌, ◌≤◌, List, [], ◌∷◌, ◌++◌, length, take, drop, length-drop, sym, refl, ap, ◌∙◌, subst, arith}
 use Rattle.std.specs.Prelude.{Option, Some, None, slice_get}
 use seplogic.Ra.Ura.{Ura}
 use mir.Syntax.{Ty, w64, ty_int, ty_array}
@@ -17,7 +17,7 @@ use denote.Steps.{nothing}
 use denote.Param.{param}
 use denote.Param.Laws.{Laws}
 use Rattle.cell_core.specs.Fields.{pack}
-use Rattle.cell_core.specs.Slot.{Names, Phase, Rest, IsPlain, HasNoSeat, ArePlain, cell_in, free, begun, busy, full, broken, broken_by_owner, state, mark, place, told, word, step}
+use Rattle.cell_core.specs.Slot.{Names, Phase, Rest, IsPlain, HasNoSeat, ArePlain, cell_in, free, begun, busy, full, broken, broken_by_owner, state, mark, place, ended_or_seatless, told, word, step}
 use Rattle.cell_core.specs.Slot.{Lies as Fills}
 use Rattle.cell_core.specs.Laid.{AreOfKind, Extent, Lies, words_ty, rooms_ty, lying, rests, still, along, laid}
 use Rattle.cell_core.specs.Member.{MemberView, HasNames, KnowsCells, IsUntied, AreUntied, known_as, members}
@@ -235,7 +235,7 @@ module _ (T : RattleType) (L : Laws T) {M : Type 1} {𝓤 : Ura M} (𝓛 : Logic
   one γ (v, full x) c e o known = stays γ v (full x) c e o known (id⊢ 𝓤 _)
   one γ (v, broken) c e o known = stays γ v broken c e o known (id⊢ 𝓤 _)
   one γ (v, broken_by_owner) c e o known = stays γ v broken_by_owner c e o known (qed 𝓛 (‵ (told R γ broken_by_owner) ∷ []) ∵ fsplit ! $ keep ! (0 ∷ []) $
-      nothing ! $ fpack ! (HasNoSeat None) (λ _. ftrue) tt $ move ! (1 ∷ 0 ∷ []) $ fjoin ! $ done !)
+      nothing ! $ fpack ! (HasNoSeat None) (λ _. ftrue) tt $ fpack ! Bool (ended_or_seatless R (untied_cell γ)) false $ move ! (1 ∷ 0 ∷ []) $ fjoin ! $ done !)
 
   -- cells with the same states
   abbrev Many : List Names → ℕ → ℕ → (ℕ → Rest R.Denot) → List View → ℕ → List Names × (ℕ → Rest R.Denot) → Pr

@@ -1,6 +1,7 @@
 -- Cells whose ties are fixed at a stage: they have no seat, and it is known how far each is.
-use Rattle.std.specs.Prelude.{◌≡◌, ◌≢◌, ◌↔◌, ℕ, suc, Option, Some, None, List, [], ◌∷◌, slice_set}
-use Rattle.tie_core.specs.Tie.{Tie, Stage, Filled, Shows, fixed_at}
+use Rattle.std.specs.Prelude.{◌≡◌, ◌≢◌, ◌↔◌, ℕ, suc, Option, Some, None, List, [], ◌∷◌, slice_get, slice_set}
+use base.Fml.{Lft}
+use Rattle.tie_core.specs.Tie.{Tie, Stage, Filled, Broken, Shows, IsTied, fixed_at}
 use Rattle.cell_core.specs.Fields.{field}
 use Rattle.cell_core.specs.Slot.{Names, cell_in}
 use Rattle.cell_core.specs.Laid.{IsFixedAt}
@@ -21,6 +22,29 @@ fixed_cell γ s = record γ { tied = fixed_at γ.tied s }
 -- the same cell without its tie
 abbrev pub untied_cell : Names → Names
 untied_cell γ = record γ { tied = None }
+
+-- the same cell with this tie
+abbrev pub tied_cell : Names → Option Tie → Names
+tied_cell γ τ = record γ { tied = τ }
+
+-- the same of some cells, which get these ties in order
+abbrev pub tied_cells : List (Option Tie) → List Names → List Names
+tied_cells [] γs = []
+tied_cells (τ ∷ τs) [] = []
+tied_cells (τ ∷ τs) (γ ∷ γs) = tied_cell γ τ ∷ tied_cells τs γs
+
+-- each of some ties is one
+abbrev pub AreTies : List (Option Tie) → Type 0
+AreTies [] = Unit {0}
+AreTies (τ ∷ τs) = IsTied τ × AreTies τs
+
+-- each cell is fixed at its stage of these
+abbrev pub AreAtStages : List Stage → List Names → Type 0
+AreAtStages stages γs = (i : ℕ) (s : Stage) → slice_get stages i ≡ Some s → stage_in (cell_in γs i) ≡ Some s
+
+-- each cell that is broken by its stage of these was broken for this epoch
+abbrev pub AreBrokenFor : List Stage → List Names → Lft → Type 0
+AreBrokenFor stages γs epoch = (i : ℕ) → slice_get stages i ≡ Some Broken → (cell_in γs i).epoch ≡ epoch
 
 -- the cell at the index is fixed at a stage, so it has no seat; it keeps its names, and each other cell stays as it is
 pub record FixesOne (old : List Names) (i : ℕ) (new : List Names) (s : Stage) : Type 0 where

@@ -7,7 +7,7 @@ use denote.RattleType.{RattleType}
 use Rattle.cell_core.specs.Slot.{Names, IsPlain, cell_in, fact, written, filled_state, owner_broken_state}
 use Rattle.cell_core.specs.Laid.{IsAnother}
 use Rattle.cell_core.specs.Fixed.{stage_in, untied_cell}
-use Rattle.tie_core.specs.Tie.{Stage, Begun}
+use Rattle.tie_core.specs.Tie.{Stage, Begun, Broken}
 
 -- what is known of a cell: the value that it always keeps and the value's name; or otherwise the epoch in
 -- which it stays broken, and that the name never gets a value
@@ -78,6 +78,13 @@ abbrev pub KnowsCells : {T : Type 0} → List (MemberView T) → ℕ → List Na
 KnowsCells {T} ms j γs =
     (i : ℕ) (m : MemberView T) → i < length γs → slice_get ms (j + i) ≡ Some m
     → HasNames (cell_in γs i) m.value m.name m.epoch
+
+-- each cell that is broken by its stage of these is a member without a value, broken for this epoch; the first cell is
+-- the member at an index
+abbrev pub AreBrokenMembers : {T : Type 0} → List Stage → List (MemberView T) → ℕ → Lft → Type 0
+AreBrokenMembers {T} stages ms j epoch =
+    (i : ℕ) → slice_get stages i ≡ Some Broken
+    → (m : MemberView T) × (slice_get ms (j + i) ≡ Some m) × (m.value ≡ None) × (m.epoch ≡ epoch)
 
 -- The same cell without its tie. The name of its value may be another one, but only if the cell may be begun: not if it
 -- was not tied, or was fixed at another stage

@@ -2,7 +2,7 @@
 -- room for its value. Each time the word is lent, its cells take a turn: a lifetime, and a name for each cell that
 -- tracks what the cell's room holds. One invariant holds the word, and of each cell the right to write or the shared
 -- value. A cell has an epoch too, a lifetime. It has ended for all cells but those that an owner broke: such a cell
--- stays broken as long as its epoch lasts.
+-- stays broken as long as its epoch lasts, and has a seat only once it has ended.
 use Rattle.std.specs.Prelude.{◌≡◌, ◌≢◌, ℕ, zero, suc, ◌+◌, ◌<◌, ◌≤◌, Bool, true, false, eqb, Option, Some, None, List, [], ◌∷◌, length, get_or}
 use Rattle.std.specs.Coded.{coded_option}
 use mir.Syntax.{w64, ty_int}
@@ -94,9 +94,17 @@ broken_state = 5
 abbrev pub owner_broken_state : ℕ
 owner_broken_state = 9
 
--- if the state is that of a cell that an owner broke, the cell has no seat
-abbrev pub ShowsOwner : Option Tie → ℕ → Type 0
-ShowsOwner τ n = busy_state < n → n ≢ filled_state → n ≢ broken_state → HasNoSeat τ
+-- what a mender of a cell with a seat sought, by what it found: it takes a broken cell whoever broke it
+abbrev pub mender_sought : ℕ → ℕ
+mender_sought zero = broken_state
+mender_sought (suc zero) = broken_state
+mender_sought (suc (suc zero)) = broken_state
+mender_sought (suc (suc (suc zero))) = broken_state
+mender_sought (suc (suc (suc (suc n)))) = suc (suc (suc (suc n)))
+
+-- a mender found what it sought exactly if it found a broken cell
+abbrev pub SeeksBroken : ℕ → ℕ → Type 0
+SeeksBroken found sought = (filled_state < found → found ≡ sought) × (found ≤ filled_state → found ≢ sought)
 
 -- what makes a cell filled, and broken, that its writer has: by whether it is begun and not busy
 abbrev pub fill_added : Bool → ℕ
@@ -242,9 +250,14 @@ module _ (R : RattleType) where
     abbrev pub broken_unset : Fml
     broken_unset = fsep (was_broken γ.broken_name) unset
 
-    -- the same of one that an owner broke, which thereby lost its seat
-    abbrev pub broken_seatless : Fml
-    broken_seatless = fsep broken_unset (fact (HasNoSeat γ.tied))
+    -- what keeps others from a cell that an owner broke while its epoch lasts: it has no seat until the epoch has ended
+    abbrev pub ended_or_seatless : Bool → Fml
+    ended_or_seatless true = over
+    ended_or_seatless false = fact (HasNoSeat γ.tied)
+
+    -- what a cell has that an owner broke
+    abbrev pub broken_for_epoch : Fml
+    broken_for_epoch = fsep broken_unset (fex Bool ended_or_seatless)
 
     -- what goes with each phase
     abbrev pub told : Phase R.Denot → Fml
@@ -253,7 +266,7 @@ module _ (R : RattleType) where
     told busy = over
     told (full x) = fsep over (written γ.value_name x)
     told broken = fsep over broken_unset
-    told broken_by_owner = broken_seatless
+    told broken_by_owner = broken_for_epoch
 
     -- the seat, as the phase has it
     abbrev pub seat : Phase R.Denot → Fml

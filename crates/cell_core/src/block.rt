@@ -18,6 +18,7 @@ mod pen;
 mod placed;
 mod plain;
 mod run;
+mod seated;
 mod shown;
 mod slice;
 mod spoilt;

@@ -10,7 +10,8 @@
 //! a token shows.
 //!
 //! A block's cells may be tied to a table of `atomic_table`, by a marker of the block (`block::Tied`). A step on a tied
-//! cell runs an update of its caller, an `Offer` of `tie_core`; only a look may do without one. Nothing uses this yet.
+//! cell runs an update of its caller, an `Offer` of `tie_core`; only a look may do without one. An owner of such a block
+//! knows at which stage each cell is, and may give the cells new seats at these stages (`block/seated.rt`).
 //!
 //! The block is safe code over the raw steps on one cell (`slot/steps.rt`) and on both rows (`block/steps.rt`), which
 //! are proved by hand. `specs/Slot.antt` and `specs/Laid.antt` define what they

@@ -5,7 +5,7 @@ use Rattle.std.proofs.lemmas.List.Elements.{All-nil}
 use Rattle.std.proofs.lemmas.Bool.Decides.{nat_tests}
 use Rattle.std.specs.List.{Contains}
 use Rattle.atomic_table.specs.Seated.{TableId}
-use Rattle.tie_core.specs.Tie.{Tie}
+use Rattle.tie_core.specs.Tie.{Tie, Stage}
 use Rattle.tie_core.specs.Desk.{IsTieOf}
 use Rattle.tie_core.specs.Visit.{EntryTie, IsEntryOf}
 use Rattle.claim_core.specs.declared.seat_view.SeatView.{SeatView}
@@ -21,6 +21,7 @@ use Rattle.claim_core.specs.Gain.{IsTiedTo, IsEntryTo}
 use Rattle.claim_core.specs.Seat.{ClaimSeat, word_view, IsOpened, hand_view, IsHeld, IsPair, SeesAsOne}
 use Rattle.claim_core.specs.Rule.{word_count, size_at}
 use Rattle.claim_core.specs.SeatView.{Seated, IsConsistent, Claims, first_view, with_own}
+use Rattle.claim_core.specs.Ties.{first_stages}
 use Rattle.claim_core.specs.StepLaws.{IsHandSeat}
 use Rattle.claim_core.proofs.Prefixes.{prefix_nil}
 use Rattle.claim_core.proofs.Counts.{times-from_Contains, times-append}
@@ -78,6 +79,10 @@ pub is_here : {number : ℕ} {table desk : TableId} {key terms desk_key : Terms}
     → IsOpened table key terms desk desk_key → word_view table terms number ≡ word → hand.of ≡ word → hand.of.table.words ≡ word_count
 is_here hand opened word_is ours = ap (λ (w : WordView). w.table.words) (ours ∙ sym word_is) ∙ opened.words
 
+-- past the places that the word began with is past those of the hand's word
+pub base_here : (hand : HandView) {word : WordView} {from : ℕ} → hand.of ≡ word → word.base ≤ from → hand.of.base ≤ from
+base_here hand {word} {from} ours past = subst (λ (w : WordView). w.base ≤ from) (sym ours) past
+
 -- its seat is a hand's of this table, with the terms of the table's desk
 pub same_table : {number floor : ℕ} {table other : TableId} {terms : Terms} {word : WordView} {hand : HandView} (v : SeatView)
     → word_view table terms number ≡ word → hand.of ≡ word → seat_hand floor other v ≡ hand → other ≡ table
@@ -119,6 +124,17 @@ tied_there {number} {table} {terms} {word} {tie} word_is tied = subst (λ (w : W
 pub entry_there : {number : ℕ} {table : TableId} {terms : Terms} {word : WordView} {tie : EntryTie} → word_view table terms number ≡ word
     → IsEntryOf table number tie → IsEntryTo word tie
 entry_there {number} {table} {terms} {word} {tie} word_is tied = subst (λ (w : WordView). IsEntryOf w.table w.floor tie) word_is tied
+
+-- stages that are the first ones by the terms of the desk are those by the word
+pub stages_there : {number : ℕ} {table desk : TableId} {key terms desk_key : Terms} {word : WordView} (from n : ℕ) (all : List Stage)
+    → IsOpened table key terms desk desk_key → word_view table terms number ≡ word
+    → all ≡ first_stages desk_key.base desk_key.mark.filled from n → all ≡ first_stages word.base word.filled from n
+stages_there {number} {table} {desk} {key} {terms} {desk_key} {word} from n all opened word_is are =
+    let base : desk_key.base ≡ word.base =
+    ap (λ (t : Terms). t.base) opened.desk_terms ∙ (opened.key_base ∙ ap (λ (w : WordView). w.base) word_is) in
+    let filled : desk_key.mark.filled ≡ word.filled =
+    ap (λ (t : Terms). t.mark.filled) opened.desk_terms ∙ (opened.key_filled ∙ ap (λ (w : WordView). w.filled) word_is) in
+    are ∙ (λ i. first_stages (base i) (filled i) from n)
 
 -- two lists of runs that a consistent view has together have none in common
 pub owned_apart : {both : SeatView} (xs ys : List ℕ) → IsConsistent both → both.mine ≡ xs ++ ys → (k : ℕ)

@@ -1,6 +1,6 @@
 -- What the rule permits, as desks ask it: steps on cells and entries by a hand's seat, from what callers see of the hand.
-use Rattle.std.proofs.Common.{◌≡◌, ◌≢◌, ◌⊎◌, ℕ, ◌+◌, ◌<◌, ◌≤◌, List, [], ◌∷◌, ◌++◌, set, None, refl, ap, sym, ◌∙◌, subst, inl, inr, ⊎_elim, lit<, arith}
-use Rattle.std.proofs.lemmas.Bool.{cases_eq}
+use Rattle.std.proofs.Common.{◌≡◌, ◌⊎◌, ℕ, ◌+◌, ◌<◌, ◌≤◌, List, [], ◌∷◌, ◌++◌, length, set, None, refl, ap, sym, ◌∙◌, subst, inl, inr, ⊎_elim, arith}
+use Rattle.std.proofs.lemmas.Bool.{cases_lt}
 use Rattle.std.proofs.lemmas.List.{append-nil}
 use Rattle.std.specs.List.{Contains}
 use mathlib.Core.Logic.{dite}
@@ -10,7 +10,7 @@ use Rattle.atomic_table.specs.Seated.{TableId}
 use Rattle.book_core.specs.declared.events.Event.{Event}
 use Rattle.book_core.specs.declared.events.Reply.{Reply}
 use Rattle.tie_core.specs.Tie.{Stage, Idle, Begun, Mending, Filled, Broken, Shows, IsHeld, looks, begins, fills, breaks, mends}
-use Rattle.tie_core.specs.Permits.{PermitsRow}
+use Rattle.tie_core.specs.Permits.{PermitsRow, PermitsAdoption}
 use Rattle.tie_core.specs.Visit.{EntryTie, Content, PermitsVisit, PermitsPublish, PermitsEntry}
 use Rattle.claim_core.specs.declared.role.CellStage.TheVariants as stages
 use Rattle.claim_core.specs.declared.role.RowAt.{RowAt}
@@ -25,14 +25,15 @@ use Rattle.claim_core.specs.Gain.{no_gain, an_event, a_begin, a_row, HasSeenPlac
 use Rattle.claim_core.specs.Plays.{cell_stage, stage_view, empty_view, placed_view, block_view, look_gains, begin_gains, fill_gains, spoil_gains, mend_gains, fill_mended_gains, spoil_mended_gains, read_gains, found_gain, scout_gain, set_gain, told_by, told_of, unseen, entered, Learns, MayStep}
 use Rattle.claim_core.specs.SeatView.{spent_view, Remarks}
 use Rattle.claim_core.specs.SeatSteps.{with_views, writer_of, try_event, IsHeldAt, SeesPlace, Begins, LearnsRow, IsStill}
-use Rattle.claim_core.specs.Ties.{Finds}
+use Rattle.claim_core.specs.Ties.{first_stages, Finds}
 use Rattle.claim_core.specs.Rule.{Kept}
 use Rattle.claim_core.specs.StepLaws.{IsHandSeat}
 use Rattle.claim_core.proofs.Tiles.{find_run}
 use Rattle.claim_core.proofs.CellEvents.{begun_is_busy, mending_is_busy, filled_is_busy, broken_is_busy}
 use Rattle.claim_core.proofs.CellSteps.{not_begun}
 use Rattle.claim_core.proofs.TiedLaws.{whole_leads}
-use Rattle.claim_core.proofs.Permits.{permits_laying, permits_look, permits_fill, permits_break, permits_mend, permits_begin, permits_no_entry, permits_nothing, permits_row, still, permits_still, permits_publish, permits_unseen, permits_entry}
+use Rattle.claim_core.proofs.TiedEntries.{adopted_views}
+use Rattle.claim_core.proofs.Permits.{permits_laying, permits_look, permits_fill, permits_break, permits_mend, permits_begin, permits_no_entry, permits_nothing, permits_row, still, permits_still, permits_publish, permits_unseen, permits_entry, permits_adoption}
 
 -- ---- Stages
 
@@ -50,16 +51,16 @@ held_is Mending held = inr refl
 held_is Filled held = absurd held
 held_is Broken held = absurd held
 
-five_else : (n : ℕ) → 5 ≡ n → n < 5 → ⊥
-five_else n is less = omega arith
+not_more : (n m : ℕ) → n ≡ m → m ≤ 3 → 3 < n → ⊥
+not_more n m is low high = omega arith
 
--- only a broken cell shows 5
-broken_is : (a : Stage) → Shows a 5 → a ≡ Broken
-broken_is Idle e = absurd (five_else 0 e (lit< tt))
-broken_is Begun e = absurd (five_else 0 e (lit< tt))
-broken_is Mending e = absurd (five_else 1 e (lit< tt))
-broken_is Filled e = absurd (five_else 3 e (lit< tt))
-broken_is Broken e = refl
+-- only a broken cell shows more than 3
+broken_is : (a : Stage) (n : ℕ) → Shows a n → 3 < n → a ≡ Broken
+broken_is Idle n e high = absurd (not_more n 0 e (omega arith) high)
+broken_is Begun n e high = absurd (not_more n 0 e (omega arith) high)
+broken_is Mending n e high = absurd (not_more n 1 e (omega arith) high)
+broken_is Filled n e high = absurd (not_more n 3 e (omega arith) high)
+broken_is Broken n e high = refl
 
 -- ---- What a seat learns
 
@@ -165,9 +166,9 @@ module _ (hand : HandView) (place k : ℕ) (found : Finds hand.rows place k) whe
     may_mend terms id floor table v at is s n a b holds here other cell moves =
         let how : ((cell_stage a ≡ stages.Broken) × (cell_stage b ≡ stages.Mending)) ⊎ (cell_stage b ≡ cell_stage a) =
         ⊎_elim
-        (λ (five : n ≡ 5). inl (ap cell_stage (broken_is a (subst (λ (m : ℕ). Shows a m) five (moves.0))), ap cell_stage (moves.1 five)))
-        (λ (not : n ≢ 5). inr (ap cell_stage (moves.2 not)))
-        (cases_eq n 5) in
+        (λ (high : 3 < n). inl (ap cell_stage (broken_is a n (moves.0) high), ap cell_stage (moves.1 high)))
+        (λ (low : n ≤ 3). inr (ap cell_stage (moves.2 low)))
+        (cases_lt 3 n) in
         let law =
         permits_mend terms id v at.limit at.base at.filled at.part place k (finds floor table v is) (below floor table v is)
         (cell_stage a) (cell_stage b) how s holds here cell in
@@ -232,14 +233,13 @@ module _ (hand : HandView) (place k : ℕ) (found : Finds hand.rows place k) whe
 -- ---- Steps on entries
 
 module _ (hand : HandView) (terms : Terms) (id floor : ℕ) (table : TableId) (v : SeatView) (at : IsHandSeat terms v) (is : seat_hand floor table v ≡ hand) (t : EntryTie) (from n : ℕ) where
-  pub may_find : (place : ℕ) → from ≤ place → place < from + n → hand.of.base ≤ place → place < seen_size hand
+  pub may_find : (place : ℕ) → from ≤ place → place < from + n → place < seen_size hand
       → PermitsVisit (Kept terms) id v t (empty_view from n) (placed_view from n) (told_of (found_gain from n) place v)
-  may_find place low high past seen =
-      let base : v.base ≤ place = subst (λ (h : HandView). h.of.base ≤ place) (sym is) past in
+  may_find place low high seen =
       let below : SeesPlace v place = subst (λ (h : HandView). place < seen_size h) (sym is) seen in
       record {
         at_none = λ s holds here other entry.
-            let law = permits_no_entry terms id v at.limit at.base at.filled at.part place t.own from n low high base below s holds here entry in
+            let law = permits_no_entry terms id v at.limit at.base at.filled at.part place t.own from n low high below s holds here entry in
             (law.0, law.1, event_learned law.2);
         at_block = λ k s holds here other entry.
             let law = permits_row terms id v at.limit at.base at.filled at.part k from n s holds here entry in
@@ -258,24 +258,22 @@ module _ (hand : HandView) (terms : Terms) (id floor : ℕ) (table : TableId) (v
             (law.0, law.1, row_learned law.2);
       }
 
-  pub may_publish_unseen : (told first j : ℕ) → hand.of.base ≤ from
+  pub may_publish_unseen : (told first j : ℕ)
       → PermitsPublish (Kept terms) id v t (empty_view from n) spent_view (placed_view from n) j (block_view first n) (unseen told v)
-  may_publish_unseen told first j past =
-      let base : v.base ≤ from = subst (λ (h : HandView). h.of.base ≤ from) (sym is) past in
+  may_publish_unseen told first j =
       record {
         at_none = λ s holds here other apart between entry block.
-            permits_unseen terms id v at.limit at.base at.filled at.part t.own j from first n base s holds here entry block;
+            permits_unseen terms id v at.limit at.base at.filled at.part t.own j from first n s holds here entry block;
         at_block = λ k s holds here other entry. permits_still terms id v at.limit at.base at.filled at.part s holds here;
       }
 
-  pub may_publish : (told first j : ℕ) → hand.of.base ≤ from
+  pub may_publish : (told first j : ℕ)
       → PermitsPublish (Kept terms) id v t (empty_view from n) spent_view (placed_view from n) j (block_view first n)
       (told_of (set_gain from n first) told v)
-  may_publish told first j past =
-      let base : v.base ≤ from = subst (λ (h : HandView). h.of.base ≤ from) (sym is) past in
+  may_publish told first j =
       record {
         at_none = λ s holds here other apart between entry block.
-            let law = permits_publish terms id v at.limit at.base at.filled at.part t.own j from first n base s holds here entry block in
+            let law = permits_publish terms id v at.limit at.base at.filled at.part t.own j from first n s holds here entry block in
             (law.0, law.1, row_learned law.2);
         at_block = λ k s holds here other entry.
             let law = permits_row terms id v at.limit at.base at.filled at.part k from n s holds here entry in
@@ -284,11 +282,21 @@ module _ (hand : HandView) (terms : Terms) (id floor : ℕ) (table : TableId) (v
 
 -- a whole hand may make an entry past all that it knows
 module _ (hand : HandView) (terms : Terms) (id floor : ℕ) (table : TableId) (v : SeatView) (at : IsHandSeat terms v) (is : seat_hand floor table v ≡ hand) (from n : ℕ) where
-  pub may_enter : hand.shares ≡ all_shares → hand.laid ≤ from → PermitsEntry (Kept terms) id v (empty_view from n) (entered n from v None)
-  may_enter whole unlaid s holds here =
+  pub may_enter : hand.shares ≡ all_shares → hand.laid ≤ from → hand.of.base ≤ from → PermitsEntry (Kept terms) id v (empty_view from n) (entered n from v None)
+  may_enter whole unlaid past s holds here =
       let all : v.shares ≡ all_shares = subst (λ (h : HandView). h.shares ≡ all_shares) (sym is) whole in
-      let past : v.laid ≤ from = subst (λ (h : HandView). h.laid ≤ from) (sym is) unlaid in
-      permits_entry terms id v at.limit at.base at.filled at.part all from n past s holds here
+      let free : v.laid ≤ from = subst (λ (h : HandView). h.laid ≤ from) (sym is) unlaid in
+      let base : v.base ≤ from = subst (λ (h : HandView). h.of.base ≤ from) (sym is) past in
+      permits_entry terms id v at.limit at.base at.filled at.part all from n free base s holds here
+
+  -- or one that is set already, to a block whose cells are as the word was opened
+  pub may_adopt : hand.shares ≡ all_shares → hand.laid ≤ from
+      → PermitsAdoption (Kept terms) id v stage_view (first_stages terms.base terms.mark.filled from n) (placed_view from n) (entered n from v None)
+  may_adopt whole unlaid s holds here =
+      let all : v.shares ≡ all_shares = subst (λ (h : HandView). h.shares ≡ all_shares) (sym is) whole in
+      let free : v.laid ≤ from = subst (λ (h : HandView). h.laid ≤ from) (sym is) unlaid in
+      let law = permits_adoption terms id v at.limit at.base at.filled at.part all from n free s holds here in
+      (law.0, subst (λ (vs : List SeatView). Kept terms (with_views s vs)) (adopted_views terms.base terms.mark.filled from n (length s.views) (set s.views id law.0)) law.1, law.2)
 
 pub may_lay : (terms : Terms) (n : ℕ) → PermitsRow (Kept terms) stage_view block_view n
 may_lay terms n s holds = permits_laying terms n s holds
@@ -313,3 +321,8 @@ pub enter_here : (from : ℕ) {terms : Terms} {id n also_n : ℕ} {v x : SeatVie
     → PermitsEntry (Kept terms) id v x (entered n from v None) → PermitsEntry (Kept terms) id v x (entered also_n from v None)
 enter_here from {terms} {id} {n} {also_n} {v} {x} long permits =
     subst (λ (m : ℕ). PermitsEntry (Kept terms) id v x (entered m from v None)) (sym long) permits
+
+pub adopt_here : (from : ℕ) (all : List Stage) {terms : Terms} {id n also_n : ℕ} {v x : SeatView} → also_n ≡ n
+    → PermitsAdoption (Kept terms) id v stage_view all x (entered n from v None) → PermitsAdoption (Kept terms) id v stage_view all x (entered also_n from v None)
+adopt_here from all {terms} {id} {n} {also_n} {v} {x} long permits =
+    subst (λ (m : ℕ). PermitsAdoption (Kept terms) id v stage_view all x (entered m from v None)) (sym long) permits

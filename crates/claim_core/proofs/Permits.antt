@@ -21,7 +21,7 @@ use Rattle.claim_core.specs.SeatSteps.{ClaimState, with_views, look_event, write
 use Rattle.claim_core.specs.Ties.{Ties, role_view, cell_view, first_stage, Matches, IsInRow, Finds, Knows, TiedBy}
 use Rattle.claim_core.specs.Rule.{Fits, Logged, Kept, size_at}
 use Rattle.claim_core.proofs.TiedViews.{at_below, two_seats, each_at, cell_is_no_hand, hand_is_no_block, hand_is_no_entry, entry_is_no_block, tie_hand}
-use Rattle.claim_core.proofs.TiedRows.{first_idle, finds_cases, seat_new, set_front, block_roles, block_seen, tie_block, with_row, with_entry, entry_here, placed_here, knows_published, tie_publish}
+use Rattle.claim_core.proofs.TiedRows.{finds_cases, seat_new, set_front, block_roles, block_seen, tie_block, with_row, with_entry, entry_here, placed_here, knows_published, tie_publish}
 use Rattle.claim_core.proofs.TiedEntries.{with_both, others_spent, tie_enter, tie_adopt}
 use Rattle.claim_core.proofs.RoleSeats.{fits_role, logged_role, fits_all, logged_all}
 use Rattle.claim_core.proofs.Kept.{settled_in}
@@ -233,16 +233,14 @@ module _
 
   -- ---- Entries
 
-  -- a look that finds no entry for a place that the hand has seen, past those that the word began with: it is pending
-  pub permits_no_entry : (place seat from n : ℕ) → from ≤ place → place < from + n → v.base ≤ place → SeesPlace v place
+  -- a look that finds no entry for a place that the hand has seen: it is pending
+  pub permits_no_entry : (place seat from n : ℕ) → from ≤ place → place < from + n → SeesPlace v place
       → PermitsEntry (Kept terms) id v seat (roles.EmptyEntry from n) (Remarks v (look_event place stages.Idle ∷ []))
-  permits_no_entry place seat from n low high past below s kept at entry =
+  permits_no_entry place seat from n low high below s kept at entry =
       let es : Log = look_event place stages.Idle ∷ [] in
       let is_empty = entry_here kept.ties s.views seat from n (kept.tied.each_role seat (role_view (roles.EmptyEntry from n)) entry) in
       let is : from + (place - from) ≡ place = omega arith in
-      let none : kept.ties.seat_of place ≡ None = ap kept.ties.seat_of (sym is) ∙ is_empty.bare (place - from) (omega arith) in
-      let idle : kept.ties.stage place ≡ stages.Idle =
-      kept.tied.bare place none ∙ first_idle terms.base terms.mark.filled place (let e = is_base in omega arith) in
+      let idle : kept.ties.stage place ≡ stages.Idle = ap kept.ties.stage (sym is) ∙ is_empty.idle (place - from) (omega arith) in
       let matches = subst (Matches terms.limit terms.base kept.lengths place (slice_get kept.list.cells place)) idle (kept.tied.shown place) in
       told_remarks terms s s.views id v es
       (learns terms s kept id v is_limit is_base is_filled part at es refl
@@ -309,7 +307,7 @@ module _
 
   -- a block's entry is set, if it was not
   module _
-      (entry seat from first n : ℕ) (past : v.base ≤ from) (s : ClaimState) (kept : Kept terms s) (at : get_elem? s.views id ≡ some v)
+      (entry seat from first n : ℕ) (s : ClaimState) (kept : Kept terms s) (at : get_elem? s.views id ≡ some v)
       (at_entry : get_elem? s.views entry ≡ some (role_view (roles.EmptyEntry from n)))
       (at_seat : get_elem? s.views seat ≡ some (role_view (roles.Block first n))) where
     -- the views of the entry and of the block after that
@@ -349,20 +347,17 @@ module _
         (logged_role terms.limit terms.base terms.mark.filled kept.lengths kept.list s.views kept.logged entry (roles.EmptyEntry from n) roles.Hand at_entry)
         seat (roles.Block first n) (roles.Placed from n) block_at
 
-    past_base : terms.base ≤ from
-    past_base = let e = is_base in omega arith
-
     -- what the hand knew is true still
     still_known : Knows terms.base kept.lengths (with_row kept.ties from n first) v
     still_known =
-        knows_published terms.limit terms.base terms.mark.filled kept.lengths kept.list kept.ties s.views kept.tied id v at is_hand entry seat from first n at_entry at_seat past_base v v
+        knows_published terms.limit terms.base terms.mark.filled kept.lengths kept.list kept.ties s.views kept.tied id v at is_hand entry seat from first n at_entry at_seat v v
         (kept.tied.each id v at)
 
     -- the hand has a view that knows what is true
     tied_published : (w : SeatView) → w.role ≡ roles.Hand → Knows terms.base kept.lengths (with_row kept.ties from n first) w
         → TiedBy terms.limit terms.base terms.mark.filled kept.lengths kept.list (with_row kept.ties from n first) (set published id w)
     tied_published w also_hand knows =
-        tie_publish terms.limit terms.base terms.mark.filled kept.lengths kept.list kept.ties s.views kept.tied id v at is_hand entry seat from first n at_entry at_seat past_base w
+        tie_publish terms.limit terms.base terms.mark.filled kept.lengths kept.list kept.ties s.views kept.tied id v at is_hand entry seat from first n at_entry at_seat w
         also_hand knows
 
     -- it knows the row
@@ -405,24 +400,24 @@ module _
         (v, kept', still s kept at)
 
   -- the hand then knows the row
-  pub permits_publish : (entry seat from first n : ℕ) → v.base ≤ from
+  pub permits_publish : (entry seat from first n : ℕ)
       → PermitsTrade (Kept terms) id v entry (role_view (roles.EmptyEntry from n)) spent_view seat (role_view (roles.Block first n))
       (role_view (roles.Placed from n)) (LearnsRow v (record { from = from; n = n; seat = first }))
-  permits_publish entry seat from first n past s kept at at_entry at_seat =
+  permits_publish entry seat from first n s kept at at_entry at_seat =
       told_trade terms s entry spent_view seat (role_view (roles.Placed from n)) id (LearnsRow v (record { from = from; n = n; seat = first }))
-      (λ e. no_entry entry seat from first n past s kept at at_entry at_seat (sym e))
-      (λ e. no_seat entry seat from first n past s kept at at_entry at_seat (sym e))
-      (publish_row entry seat from first n past s kept at at_entry at_seat)
+      (λ e. no_entry entry seat from first n s kept at at_entry at_seat (sym e))
+      (λ e. no_seat entry seat from first n s kept at at_entry at_seat (sym e))
+      (publish_row entry seat from first n s kept at at_entry at_seat)
 
   -- the same, if the hand learns nothing
-  pub permits_unseen : (entry seat from first n : ℕ) → v.base ≤ from
+  pub permits_unseen : (entry seat from first n : ℕ)
       → PermitsTrade (Kept terms) id v entry (role_view (roles.EmptyEntry from n)) spent_view seat (role_view (roles.Block first n))
       (role_view (roles.Placed from n)) (IsStill v)
-  permits_unseen entry seat from first n past s kept at at_entry at_seat =
+  permits_unseen entry seat from first n s kept at at_entry at_seat =
       told_trade terms s entry spent_view seat (role_view (roles.Placed from n)) id (IsStill v)
-      (λ e. no_entry entry seat from first n past s kept at at_entry at_seat (sym e))
-      (λ e. no_seat entry seat from first n past s kept at at_entry at_seat (sym e))
-      (publish_still entry seat from first n past s kept at at_entry at_seat)
+      (λ e. no_entry entry seat from first n s kept at at_entry at_seat (sym e))
+      (λ e. no_seat entry seat from first n s kept at at_entry at_seat (sym e))
+      (publish_still entry seat from first n s kept at at_entry at_seat)
 
   -- ---- Seats that are made
 
@@ -474,9 +469,9 @@ module _
         → kept.ties.entry_of (from + i) ≡ None
     free s kept at i less = (kept.tied.each id v at).unlaid part (from + i) (omega arith)
 
-    -- an entry is made that is not set
-    pub permits_entry : PermitsMore (Kept terms) id v (entry_roles from n) (LearnsEnd v (from + n))
-    permits_entry s kept at =
+    -- an entry is made that is not set, past the places that the word began with
+    pub permits_entry : v.base ≤ from → PermitsMore (Kept terms) id v (entry_roles from n) (LearnsEnd v (from + n))
+    permits_entry past s kept at =
         let made = entry_roles from n (length s.views) in
         told_front terms s s.views (map role_view made) id (LearnsEnd v (from + n)) (at_below s.views id v at)
         (told_end terms s (s.views ++ map role_view made) id v (from + n) whole
@@ -486,7 +481,7 @@ module _
         subst (λ (k : ℕ). TiedBy terms.limit terms.base terms.mark.filled kept.lengths kept.list (with_entry kept.ties from n k) (set s.views id w ++ map role_view (entry_roles from n k)))
         (length-set s.views id w)
         (tie_enter terms.limit terms.base terms.mark.filled kept.lengths kept.list kept.ties (set s.views id w)
-        (tied_hand s kept at (from + n) (omega arith) log) from n (free s kept at) (only s kept at w refl)))))
+        (tied_hand s kept at (from + n) (omega arith) log) from n (free s kept at) (only s kept at w refl) (let e = is_base in omega arith)))))
 
     -- an entry is made that is set to a block, whose cells are as the word was opened
     pub permits_adoption : PermitsMore (Kept terms) id v (placed_roles (first_stage terms.base terms.mark.filled) from n) (LearnsEnd v (from + n))

@@ -1,5 +1,5 @@
 -- Places in a history, by its fills and looks; and histories that are parts of one.
-use Rattle.std.proofs.Common.{◌≡◌, ◌⊎◌, ℕ, ◌+◌, ◌<◌, ◌≤◌, ◌==◌, true, false, [], ◌∷◌, ◌++◌, length, replicate, Option, Some, None, slice_get, ap, sym, ◌∙◌, subst, inl, inr, ⊎_elim, append_assoc, arith}
+use Rattle.std.proofs.Common.{◌≡◌, ◌⊎◌, ℕ, zero, suc, ◌+◌, ◌<◌, ◌≤◌, ◌==◌, if◌then◌else◌, Bool, true, false, get_or, List, [], ◌∷◌, ◌++◌, length, replicate, Option, Some, None, slice_get, ap, sym, ◌∙◌, subst, inl, inr, ⊎_elim, append_assoc, arith}
 use Rattle.std.specs.List.{Contains}
 use Rattle.std.proofs.lemmas.Bool.{cases_lt}
 use Rattle.std.proofs.lemmas.Bool.Decides.{eqb_tells}
@@ -10,16 +10,19 @@ use Rattle.std.proofs.lemmas.Option.{none-some, same_Some, slice_get_past}
 use Rattle.book_core.specs.declared.cells.Cell.{Cell}
 use Rattle.book_core.specs.declared.cells.Cell.TheVariants.{Pending, Filled, Broken}
 use Rattle.book_core.specs.declared.events.Event.{Event}
-use Rattle.book_core.specs.declared.events.Event.TheVariants.{Finish, Look}
+use Rattle.book_core.specs.declared.events.Event.TheVariants.{Finish, Mend, Look}
 use Rattle.book_core.specs.declared.events.Reply.{Reply}
 use Rattle.book_core.specs.declared.events.Reply.TheVariants as replies
-use Rattle.book_core.specs.Cells.{CellList, with_cell, reply_of_look, apply_event}
+use Rattle.book_core.specs.Cells.{CellList, with_cell, is_broken, reply_of_look, apply_event}
 use Rattle.book_core.specs.History.{IsHistory, IsLegalFrom}
 use Rattle.book_core.proofs.EventEffects.{IsWriteOf, ChangesNothing, AppendsRun, WritesCell, event_does}
-use Rattle.book_core.proofs.Histories.{IsHistory-split, finishes_fill}
+use Rattle.book_core.proofs.Histories.{IsHistory-split, finishes_fill, filled_cells_stay}
 use Rattle.book_core.proofs.Lists.{get_other, get_set, get_appended}
-use Rattle.claim_core.specs.History.{Log, value_cell, first_cell, first_list, fill_event}
-use Rattle.claim_core.specs.Laws.{FinishedPlacesAreFound, ShownPlacesAreFinished, HistoriesAreOne}
+use Rattle.claim_core.specs.History.{Log, value_cell, broken_cell, first_cell, first_list, fill_event}
+use Rattle.claim_core.specs.Laws.{FinishedPlacesAreFound, OpenedValuesAreFound, OpenedValuesAreNotMended, FirstStagesGoInOrder, ShownPlacesAreFinished, HistoriesAreOne}
+use Rattle.tie_core.specs.Tie.{Stage, stages_from}
+use Rattle.claim_core.specs.Ties.{opened_stage}
+use Rattle.claim_core.proofs.Logged.{first_at_place}
 use Rattle.claim_core.proofs.FillLaws.{front_get}
 use Rattle.claim_core.proofs.Prefixes.{prefix_shorter}
 
@@ -42,6 +45,40 @@ finished_places_are_found limit base actor place filled old new reply fills (mid
     let there : Contains es (fill_event actor place) = Contains-append_left old added.since (fill_event actor place) fills in
     let here : slice_get before.cells place ≡ Some (value_cell place) = finishes_fill first before es actor place place one there in
     sym (look_tells before place next reply applies) ∙ ap (reply_of_look (length before.cells)) here
+
+-- a place that a word begins with, with a value, has it in each list that a history leads to
+opened_stays : (limit base place : ℕ) (filled : List Bool) (es : Log) (v : CellList) → place < base → get_or filled place false ≡ true
+    → IsHistory (first_list limit base filled) es v → slice_get v.cells place ≡ Some (value_cell place)
+opened_stays limit base place filled es v below has history =
+    filled_cells_stay (first_list limit base filled) v es place place history
+    (first_at_place base filled place below ∙ ap (λ b. Some (if b then value_cell place else broken_cell)) has)
+
+pub opened_values_are_found : OpenedValuesAreFound
+opened_values_are_found limit base place filled old new reply below has (mid, added, (rest, is)) history =
+    let first = first_list limit base filled in
+    let es : Log = old ++ added.since in
+    let look : Log = (Look 0 place, reply) ∷ [] in
+    let all : new ≡ es ++ (look ++ rest) = sym is ∙ (ap (λ (l : Log). l ++ rest) added.is ∙ append_assoc es look rest) in
+    let legal : IsLegalFrom first (es ++ (look ++ rest)) = subst (IsLegalFrom first) all history.legal in
+    let (before, one, (next, applies, others)) = IsHistory-split first es (look ++ rest) legal.0 legal.1 in
+    let here : slice_get before.cells place ≡ Some (value_cell place) = opened_stays limit base place filled es before below has one in
+    sym (look_tells before place next reply applies) ∙ ap (reply_of_look (length before.cells)) here
+
+-- a place with a value is not mended
+not_mended : (v : CellList) (actor place : ℕ) (cell : Option Cell) (told : CellList × Reply) → cell ≡ Some (value_cell place)
+    → (if is_broken cell then Some (with_cell v place (Pending actor), replies.Done) else None) ≡ Some told → ⊥
+not_mended v actor place cell told here applies =
+    none-some told (sym (ap (λ o. if is_broken o then Some (with_cell v place (Pending actor), replies.Done) else None) here) ∙ applies)
+
+pub opened_values_are_not_mended : OpenedValuesAreNotMended
+opened_values_are_not_mended limit base actor place filled old new reply below has (mid, added, (rest, is)) history =
+    let first = first_list limit base filled in
+    let es : Log = old ++ added.since in
+    let mend : Log = (Mend actor place, reply) ∷ [] in
+    let all : new ≡ es ++ (mend ++ rest) = sym is ∙ (ap (λ (l : Log). l ++ rest) added.is ∙ append_assoc es mend rest) in
+    let legal : IsLegalFrom first (es ++ (mend ++ rest)) = subst (IsLegalFrom first) all history.legal in
+    let (before, one, (next, applies, others)) = IsHistory-split first es (mend ++ rest) legal.0 legal.1 in
+    not_mended before actor place (slice_get before.cells place) (next, reply) (opened_stays limit base place filled es before below has one) applies
 
 -- a look that shows a value found it in the list
 value_there : (size value : ℕ) (cell : Option Cell) → reply_of_look size cell ≡ replies.Value value → cell ≡ Some (Filled value)
@@ -125,6 +162,18 @@ shown_places_are_finished limit base place filled before after past history =
     (λ (began : slice_get first.cells place ≡ Some (Filled place)). absurd (none-some (Filled place) (sym (slice_get_past first.cells place (omega (arith, long, past))) ∙ began)))
     (λ (was : (actor : ℕ) × Contains before (Finish actor place place, replies.Done)). was)
     (filled_was_finished first before mid place place one shown)
+
+-- ---- The cells that a word is opened with
+
+stage_at : (f : ℕ → Stage) (from n i : ℕ) → i < n → slice_get (stages_from f from n) i ≡ Some (f (from + i))
+stage_at f from zero i less = absurd (omega arith)
+stage_at f from (suc n) zero less = let same : from ≡ from + 0 = omega arith in ap (λ (p : ℕ). Some (f p)) same
+stage_at f from (suc n) (suc i) less =
+    let same : (from + 1) + i ≡ from + suc i = omega arith in
+    stage_at f (from + 1) n i (omega arith) ∙ ap (λ (p : ℕ). Some (f p)) same
+
+pub first_stages_go_in_order : FirstStagesGoInOrder
+first_stages_go_in_order base filled from n i less = stage_at (opened_stage base filled) from n i less
 
 -- ---- Parts of one history
 

@@ -1,5 +1,5 @@
 -- The rule of tied seats after an entry is made, empty or with a block, by a hand that is whole.
-use Rattle.std.proofs.Common.{◌≡◌, ◌≢◌, ◌⊎◌, ℕ, zero, suc, ◌+◌, ◌<◌, ◌≤◌, Bool, List, [], ◌∷◌, ◌++◌, length, map, set, Some, None, ap, sym, ◌∙◌, subst, inl, inr, ⊎_elim, arith, append_assoc, length-append}
+use Rattle.std.proofs.Common.{◌≡◌, ◌≢◌, ◌⊎◌, ℕ, zero, suc, ◌+◌, ◌<◌, ◌≤◌, nat_lt, if◌then◌else◌, Bool, true, false, get_or, List, [], ◌∷◌, ◌++◌, length, map, set, Some, None, refl, ap, sym, ◌∙◌, subst, inl, inr, ⊎_elim, arith, append_assoc, length-append}
 use Rattle.std.specs.List.{range_with_len}
 use Rattle.std.proofs.lemmas.List.{map-append, length-map}
 use Rattle.std.proofs.lemmas.List.FromFn.{length-map-range_with_len}
@@ -7,18 +7,21 @@ use Rattle.std.proofs.lemmas.Option.{none-some, same_Some}
 use mathlib.Core.Option.{some, some-injective, some-ne-none}
 use lib.ListN.{get_elem?}
 use Rattle.atomic_table.proofs.Lists.{at_longer, set_else}
+use Rattle.tie_core.specs.Tie.{Idle, Filled, Broken}
 use Rattle.book_core.specs.Cells.{CellList}
 use Rattle.claim_core.specs.declared.role.CellStage.{CellStage}
+use Rattle.claim_core.specs.declared.role.CellStage.TheVariants as stages
 use Rattle.claim_core.specs.declared.role.Role.TheVariants as roles
 use Rattle.claim_core.specs.declared.seat_view.SeatView.{SeatView}
 use Rattle.claim_core.specs.Shares.{all_shares}
 use Rattle.claim_core.specs.SeatView.{spent_view}
 use Rattle.claim_core.specs.SeatSteps.{cell_roles, entry_roles, placed_roles}
-use Rattle.claim_core.specs.Ties.{Ties, role_view, cell_view, Knows, IsRole, TiedBy}
+use Rattle.claim_core.specs.Plays.{cell_stage, stage_view, placed_view}
+use Rattle.claim_core.specs.Ties.{Ties, role_view, cell_view, first_stage, first_stages, Knows, IsRole, TiedBy}
 use Rattle.claim_core.specs.Rule.{Fits}
 use Rattle.claim_core.proofs.Counts.{total-set, member_le}
 use Rattle.claim_core.proofs.TiedViews.{at_below, each_at_end, cell_role, role_knows}
-use Rattle.claim_core.proofs.TiedRows.{at_middle, cells_at, stages_at, with_row, with_entry, seat_cases, entry_cases, seat_new, entry_new, row_grows, row_apart, row_bare, placed_role, empty_role}
+use Rattle.claim_core.proofs.TiedRows.{at_middle, cells_at, stages_at, first_idle, with_row, with_entry, seat_cases, entry_cases, seat_new, entry_new, row_grows, row_apart, row_bare, placed_role, empty_role}
 
 -- ---- Lists of views
 
@@ -35,6 +38,30 @@ pub cells_are : (xs : List CellStage) (i : ℕ) (v : SeatView) → get_elem? (ma
 cells_are [] i v at = absurd (some-ne-none v (sym at))
 cells_are (x ∷ xs) zero v at = (x, some-injective (cell_view x) v at)
 cells_are (x ∷ xs) (suc i) v at = cells_are xs i v at
+
+-- the first stage of a place, as its cell's seat says it
+opened_cell : (below has : Bool)
+    → (if below then (if has then stages.Filled else stages.Broken) else stages.Idle) ≡ cell_stage (if below then (if has then Filled else Broken) else Idle)
+opened_cell true true = refl
+opened_cell true false = refl
+opened_cell false has = refl
+
+-- the views of the cells of n places when the word is opened
+opened_views : (base : ℕ) (filled : List Bool) (from n : ℕ)
+    → map role_view (cell_roles (map (first_stage base filled) (range_with_len from n))) ≡ map stage_view (first_stages base filled from n)
+opened_views base filled from zero = refl
+opened_views base filled from (suc n) = λ i.
+    cell_view (opened_cell (nat_lt from base) (get_or filled from false) i) ∷ opened_views base filled (from + 1) n i
+
+-- and with that of their block behind them
+pub adopted_views : (base : ℕ) (filled : List Bool) (from n next : ℕ) (vs : List SeatView)
+    → vs ++ map role_view (placed_roles (first_stage base filled) from n next) ≡ (vs ++ map stage_view (first_stages base filled from n)) ++ placed_view from n ∷ []
+adopted_views base filled from n next vs =
+    let cells = cell_roles (map (first_stage base filled) (range_with_len from n)) in
+    let block = roles.Placed from n ∷ [] in
+    ap (λ (l : List SeatView). vs ++ l) (map-append role_view cells block)
+    ∙ (sym (append_assoc vs (map role_view cells) (map role_view block))
+    ∙ ap (λ (l : List SeatView). (vs ++ l) ++ map role_view block) (opened_views base filled from n))
 
 -- the cells of these places have the n seats from `first` on, and their entry the seat behind them
 abbrev pub with_both : Ties → ℕ → ℕ → ℕ → Ties
@@ -93,8 +120,8 @@ module _
   row_free : (i : ℕ) → i < n → ties.seat_of (from + i) ≡ None
   row_free i less = tied.entered (from + i) (free i less)
 
-  pub tie_enter : TiedBy limit base filled lengths list (with_entry ties from n (length vs)) (vs ++ map role_view (entry_roles from n (length vs)))
-  tie_enter =
+  pub tie_enter : base ≤ from → TiedBy limit base filled lengths list (with_entry ties from n (length vs)) (vs ++ map role_view (entry_roles from n (length vs)))
+  tie_enter past =
       let entry = length vs in
       let ties' = with_entry ties from n entry in
       let views = vs ++ role_view (roles.EmptyEntry from n) ∷ [] in
@@ -119,7 +146,11 @@ module _
             });
         each_role =
             each_at_end (λ j u. IsRole ties' views j u.role) vs (role_view (roles.EmptyEntry from n))
-            (empty_role ties' views entry from n (record { entry = λ i less. entry_new ties from n entry i less; bare = row_free }))
+            (empty_role ties' views entry from n (record {
+              entry = λ i less. entry_new ties from n entry i less;
+              bare = row_free;
+              idle = λ i less. tied.bare (from + i) (row_free i less) ∙ first_idle base filled (from + i) (omega arith);
+            }))
             (λ j u here.
             let was = tied.each_role j u here in
             record {
@@ -132,7 +163,7 @@ module _
                   };
               empty = λ from' n' is.
                   let e = was.empty from' n' is in
-                  record { entry = λ i less. entry_grows entry (from' + i) j (e.entry i less); bare = e.bare };
+                  record { entry = λ i less. entry_grows entry (from' + i) j (e.entry i less); bare = e.bare; idle = e.idle };
               placed = λ from' n' is.
                   let p = was.placed from' n' is in
                   record { first = p.first; ends = p.ends; cells = p.cells };
@@ -249,6 +280,7 @@ module _
                     × ((with_row ties from n (length vs)).seat_of (from' + i') ≡ ties.seat_of (from' + i'))).
                     c.1 ∙ e.bare i' less')
                     (seat_cases ties from n (length vs) (from' + i'));
+                idle = e.idle;
               };
           placed = λ from' n' is.
               let p = was.placed from' n' is in

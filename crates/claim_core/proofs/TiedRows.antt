@@ -355,7 +355,7 @@ module _
   module _
       (id : ℕ) (v : SeatView) (at : get_elem? vs id ≡ some v) (is_hand : v.role ≡ roles.Hand) (entry seat from first n : ℕ)
       (at_entry : get_elem? vs entry ≡ some (role_view (roles.EmptyEntry from n)))
-      (at_seat : get_elem? vs seat ≡ some (role_view (roles.Block first n))) (past : base ≤ from) (w : SeatView) where
+      (at_seat : get_elem? vs seat ≡ some (role_view (roles.Block first n))) (w : SeatView) where
     -- the views and the seats after that
     abbrev published : List SeatView
     published = set (set (set vs entry spent_view) seat (role_view (roles.Placed from n))) id w
@@ -386,8 +386,7 @@ module _
 
     -- the places of the row are idle
     row_idle : (i q : ℕ) → i < n → q ≡ from + i → ties.stage q ≡ stages.Idle
-    row_idle i q less is =
-        tied.bare q (ap ties.seat_of is ∙ is_empty.bare i less) ∙ first_idle base filled q (omega arith)
+    row_idle i q less is = ap ties.stage is ∙ is_empty.idle i less
 
     seats_after : (q j : ℕ) → ties'.seat_of q ≡ Some j → get_elem? published j ≡ some (cell_view (ties.stage q))
     seats_after q j has =
@@ -452,6 +451,7 @@ module _
                     (λ (c : ((i : ℕ) → i < n → from' + i' ≢ from + i) × (ties'.seat_of (from' + i') ≡ ties.seat_of (from' + i'))).
                     c.1 ∙ e.bare i' less')
                     (seat_cases ties from n first (from' + i'));
+                idle = e.idle;
               };
           placed = λ from' n' is.
               let p = was.placed from' n' is in

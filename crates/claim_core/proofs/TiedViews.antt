@@ -108,13 +108,15 @@ cell_role ties views id stage = record {
 pub is_hand_role : (ties : Ties) (views : List SeatView) (id : ℕ) (w : SeatView) → w.role ≡ roles.Hand → IsRole ties views id w.role
 is_hand_role ties views id w is = subst (IsRole ties views id) (sym is) (hand_role ties views id)
 
--- what a role says stays if the seats of places and entries do, and idle cells that belong to no place keep their views
+-- what a role says stays if the seats of places and entries do, the stage of each place without a seat does, and idle
+-- cells that belong to no place keep their views
 pub role_stays : (ties ties' : Ties) (vs vs' : List SeatView) → ((place : ℕ) → ties'.seat_of place ≡ ties.seat_of place)
     → ((place : ℕ) → ties'.entry_of place ≡ ties.entry_of place)
+    → ((place : ℕ) → ties.seat_of place ≡ None → ties'.stage place ≡ ties.stage place)
     → ((seat : ℕ) → get_elem? vs seat ≡ some (cell_view stages.Idle) → ((place : ℕ) → ties.seat_of place ≡ Some seat → ⊥)
     → get_elem? vs' seat ≡ some (cell_view stages.Idle))
     → (id : ℕ) (role : Role) → IsRole ties vs id role → IsRole ties' vs' id role
-role_stays ties ties' vs vs' seats entries still id role was = record {
+role_stays ties ties' vs vs' seats entries bares still id role was = record {
   block = λ first n is.
       let b = was.block first n is in
       record {
@@ -124,7 +126,11 @@ role_stays ties ties' vs vs' seats entries still id role was = record {
       };
   empty = λ from n is.
       let e = was.empty from n is in
-      record { entry = λ i less. entries (from + i) ∙ e.entry i less; bare = λ i less. seats (from + i) ∙ e.bare i less };
+      record {
+        entry = λ i less. entries (from + i) ∙ e.entry i less;
+        bare = λ i less. seats (from + i) ∙ e.bare i less;
+        idle = λ i less. bares (from + i) (e.bare i less) ∙ e.idle i less;
+      };
   placed = λ from n is.
       let p = was.placed from n is in
       record { first = p.first; ends = p.ends; cells = λ i less. seats (from + i) ∙ p.cells i less };
@@ -199,7 +205,7 @@ module _
         each = each_at_end (λ _. Knows base lengths ties) vs u knows tied.each;
         each_role =
             each_at_end (λ j v. IsRole ties (vs ++ u ∷ []) j v.role) vs u role
-            (λ j v at. role_stays ties ties vs (vs ++ u ∷ []) (λ _. refl) (λ _. refl)
+            (λ j v at. role_stays ties ties vs (vs ++ u ∷ []) (λ _. refl) (λ _. refl) (λ _ _. refl)
             (λ seat idle _. at_longer vs (u ∷ []) seat (cell_view stages.Idle) idle) j v.role (tied.each_role j v at));
       }
 
@@ -225,7 +231,7 @@ module _
           each = each_at (λ _. Knows base lengths ties) vs id w knows (λ j u _ here. tied.each j u here);
           each_role =
               each_at (λ j u. IsRole ties (set vs id w) j u.role) vs id w (is_hand_role ties (set vs id w) id w also_hand)
-              (λ j u _ here. role_stays ties ties vs (set vs id w) (λ _. refl) (λ _. refl)
+              (λ j u _ here. role_stays ties ties vs (set vs id w) (λ _. refl) (λ _. refl) (λ _ _. refl)
               (λ seat idle _. cell_stays w seat stages.Idle idle) j u.role (tied.each_role j u here));
         }
 
@@ -338,6 +344,6 @@ module _
                   (λ j u _ after.
                   each_at (λ i x. IsRole (with_stage ties place b) moved i x.role) vs seat (cell_view b)
                   (cell_role (with_stage ties place b) moved seat b)
-                  (λ i x _ was. role_stays ties (with_stage ties place b) vs moved (λ _. refl) (λ _. refl) idle_stays i x.role (tied.each_role i x was))
+                  (λ i x _ was. role_stays ties (with_stage ties place b) vs moved (λ _. refl) (λ _. refl) bare_moved idle_stays i x.role (tied.each_role i x was))
                   j u after);
             }

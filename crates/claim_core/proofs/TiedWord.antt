@@ -289,7 +289,7 @@ module _
               (λ j u _ here. knows_more n u (suits j u here) (tied.each j u here));
           each_role =
               each_at (λ j u. IsRole ties (set vs id w) j u.role) vs id w (is_hand_role ties (set vs id w) id w (role ∙ is_hand))
-              (λ j u _ here. role_stays ties ties vs (set vs id w) (λ _. refl) (λ _. refl)
+              (λ j u _ here. role_stays ties ties vs (set vs id w) (λ _. refl) (λ _. refl) (λ _ _. refl)
               (λ seat idle _. cell_stays limit base filled lengths list ties vs tied id v at is_hand w seat stages.Idle idle)
               j u.role (tied.each_role j u here));
         }

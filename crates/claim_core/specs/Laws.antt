@@ -1,5 +1,5 @@
 -- What follows from the definitions of runs and hands alone.
-use Rattle.std.specs.Prelude.{◌≡◌, ℕ, ◌+◌, ◌<◌, ◌≤◌, ◌≢◌, ◌↔◌, ◌⊎◌, Bool, List, [], ◌∷◌, ◌++◌, length, replicate, Some, slice_get}
+use Rattle.std.specs.Prelude.{◌≡◌, ℕ, ◌+◌, ◌<◌, ◌≤◌, ◌≢◌, ◌↔◌, ◌⊎◌, Bool, true, false, get_or, List, [], ◌∷◌, ◌++◌, length, replicate, Some, slice_get}
 use Rattle.std.specs.List.{Contains}
 use mathlib.Core.List.{IsPrefix}
 use Rattle.tie_core.specs.Tie.{Begun, Filled}
@@ -13,6 +13,7 @@ use Rattle.book_core.specs.History.{IsHistory, runs_of, owner_of}
 use Rattle.claim_core.specs.History.{Log, AddsEvents, Adds, IsHistoryOf, first_list, value_cell, fill_event, fill_steps, break_event, first_cell, lengths_of, claim_event, size_event, IsNote, no_note, full_note, growth_note, reach_note, range_note}
 use Rattle.claim_core.specs.Word.{WordView, first_at}
 use Rattle.claim_core.specs.Hand.{HandView, KeepsOwn, KeepsCells, SeesBegun, AddsRun, SeesRun, OwnsRun, OwnsPlace, SeesOwn, GainsRun, OwnApart, IsOwnRun, IsPlaceOf, AreDisjoint, single, seen_size, own_places}
+use Rattle.claim_core.specs.Ties.{opened_stage, first_stages}
 use Rattle.claim_core.specs.Plays.{fills_by, places_back}
 
 -- a run stays where it is when the list goes on
@@ -242,6 +243,26 @@ abbrev pub FinishedPlacesAreFound : Type 0
 FinishedPlacesAreFound =
     (limit base actor place : ℕ) (filled : List Bool) (old new : Log) (reply : Reply) → Contains old (fill_event actor place)
     → Adds old (((Look 0 place, reply) ∷ []) ∷ []) new → IsHistoryOf limit base filled new → reply ≡ replies.Value place
+
+-- a look shows the value of each place that a word begins with and that has one
+abbrev pub OpenedValuesAreFound : Type 0
+OpenedValuesAreFound =
+    (limit base place : ℕ) (filled : List Bool) (old new : Log) (reply : Reply) → place < base
+    → get_or filled place false ≡ true
+    → Adds old (((Look 0 place, reply) ∷ []) ∷ []) new → IsHistoryOf limit base filled new → reply ≡ replies.Value place
+
+-- nobody takes such a place for mending
+abbrev pub OpenedValuesAreNotMended : Type 0
+OpenedValuesAreNotMended =
+    (limit base actor place : ℕ) (filled : List Bool) (old new : Log) (reply : Reply) → place < base
+    → get_or filled place false ≡ true
+    → Adds old (((Mend actor place, reply) ∷ []) ∷ []) new → IsHistoryOf limit base filled new → ⊥
+
+-- each cell of those that a word is opened with is at the first stage of its place
+abbrev pub FirstStagesGoInOrder : Type 0
+FirstStagesGoInOrder =
+    (base : ℕ) (filled : List Bool) (from n i : ℕ) → i < n
+    → slice_get (first_stages base filled from n) i ≡ Some (opened_stage base filled (from + i))
 
 -- a look that shows a value comes after the place was filled, if a word did not begin with the place
 abbrev pub ShownPlacesAreFinished : Type 0

@@ -78,11 +78,11 @@ TriesArePermitted =
     (terms : Terms) (id seat place index : ℕ) (v : SeatView) → FindsPlace terms v place seat → OwnsAt v index place
     → PermitsCell (Kept terms) id v seat MovesByTry (λ stage after. Begins v place)
 
--- a look that finds no entry, at a place that was claimed since the word was opened, logs that it is pending
+-- a look that finds no entry, at a place that the hand has seen, logs that it is pending
 abbrev pub BareLooksArePermitted : Type 0
 BareLooksArePermitted =
     (terms : Terms) (id seat place from n : ℕ) (v : SeatView) → IsHandSeat terms v → from ≤ place → place < from + n
-    → v.base ≤ place → SeesPlace v place
+    → SeesPlace v place
     → PermitsEntry (Kept terms) id v seat (roles.EmptyEntry from n) (Remarks v (look_event place stages.Idle ∷ []))
 
 -- a look that finds no entry, and names no place, logs nothing
@@ -101,7 +101,7 @@ RowsArePermitted =
 -- an entry that is not set may be set to a block
 abbrev pub PublishingIsPermitted : Type 0
 PublishingIsPermitted =
-    (terms : Terms) (id entry seat from first n : ℕ) (v : SeatView) → IsHandSeat terms v → v.base ≤ from
+    (terms : Terms) (id entry seat from first n : ℕ) (v : SeatView) → IsHandSeat terms v
     → PermitsTrade (Kept terms) id v entry (role_view (roles.EmptyEntry from n)) spent_view seat
     (role_view (roles.Block first n)) (role_view (roles.Placed from n))
     (LearnsRow v (record { from = from; n = n; seat = first }))
@@ -109,7 +109,7 @@ PublishingIsPermitted =
 -- it may be set also beside a hand that stays as it is
 abbrev pub UnseenPublishingIsPermitted : Type 0
 UnseenPublishingIsPermitted =
-    (terms : Terms) (id entry seat from first n : ℕ) (v : SeatView) → IsHandSeat terms v → v.base ≤ from
+    (terms : Terms) (id entry seat from first n : ℕ) (v : SeatView) → IsHandSeat terms v
     → PermitsTrade (Kept terms) id v entry (role_view (roles.EmptyEntry from n)) spent_view seat
     (role_view (roles.Block first n)) (role_view (roles.Placed from n)) (IsStill v)
 
@@ -117,10 +117,11 @@ UnseenPublishingIsPermitted =
 abbrev pub LayingIsPermitted : Type 0
 LayingIsPermitted = (terms : Terms) (n : ℕ) → PermitsBlock (Kept terms) n
 
--- a whole hand may make an entry past all that there are
+-- a whole hand may make an entry past all that there are, and past the places that the word began with
 abbrev pub EntriesArePermitted : Type 0
 EntriesArePermitted =
     (terms : Terms) (id from n : ℕ) (v : SeatView) → IsHandSeat terms v → v.shares ≡ all_shares → v.laid ≤ from
+    → v.base ≤ from
     → PermitsMore (Kept terms) id v (entry_roles from n) (LearnsEnd v (from + n))
 
 -- or one that is set already, to a block whose cells are as the word was opened

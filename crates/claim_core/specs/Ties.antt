@@ -4,6 +4,7 @@ use Rattle.std.specs.Prelude.{◌≡◌, ◌≢◌, ◌⊎◌, ℕ, ◌+◌, ◌
 use Rattle.std.specs.List.{Contains}
 use mathlib.Core.Option.{some}
 use lib.ListN.{get_elem?}
+use Rattle.tie_core.specs.Tie.{Stage, Idle, Filled, Broken, stages_from}
 use Rattle.book_core.specs.declared.cells.Cell.{Cell}
 use Rattle.book_core.specs.declared.cells.Cell.TheVariants.{Pending}
 use Rattle.book_core.specs.Cells.{CellList}
@@ -14,6 +15,7 @@ use Rattle.claim_core.specs.declared.role.Role.{Role}
 use Rattle.claim_core.specs.declared.role.Role.TheVariants as roles
 use Rattle.claim_core.specs.declared.role.RowAt.{RowAt}
 use Rattle.claim_core.specs.declared.seat_view.SeatView.{SeatView}
+use Rattle.claim_core.specs.declared.terms.Terms.{Terms}
 use Rattle.claim_core.specs.Lengths.{InRun, runs_end}
 use Rattle.claim_core.specs.History.{Log, first_list, value_cell, broken_cell, mender_of}
 use Rattle.claim_core.specs.SeatView.{spent_view}
@@ -40,6 +42,19 @@ pub record Ties : Type 0 where
 abbrev pub first_stage : ℕ → List Bool → ℕ → CellStage
 first_stage base filled place =
     if nat_lt place base then (if get_or filled place false then stages.Filled else stages.Broken) else stages.Idle
+
+-- the same as a stage of tie_core
+abbrev pub opened_stage : ℕ → List Bool → ℕ → Stage
+opened_stage base filled place =
+    if nat_lt place base then (if get_or filled place false then Filled else Broken) else Idle
+
+-- by the word's terms
+abbrev pub opened_by : Terms → ℕ → Stage
+opened_by terms = opened_stage terms.base terms.mark.filled
+
+-- those of n places from one on
+abbrev pub first_stages : ℕ → List Bool → ℕ → ℕ → List Stage
+first_stages base filled from n = stages_from (opened_stage base filled) from n
 
 -- nothing is tied yet
 abbrev pub no_ties : ℕ → List Bool → Ties
@@ -100,10 +115,12 @@ pub record IsBlock (ties : Ties) (views : List SeatView) (id first n : ℕ) : Ty
   pub idle : (i : ℕ) → i < n → get_elem? views (first + i) ≡ some (cell_view stages.Idle)
   pub nowhere : (i place : ℕ) → i < n → ties.seat_of place ≡ Some (first + i) → ⊥
 
--- the entry of the n places was made with this seat, and these places have no cells
+-- the entry of the n places was made with this seat. These places have no cells, and nobody has begun them, since the
+-- word did not begin with them
 pub record IsEmptyEntry (ties : Ties) (id from n : ℕ) : Type 0 where
   pub entry : (i : ℕ) → i < n → ties.entry_of (from + i) ≡ Some id
   pub bare : (i : ℕ) → i < n → ties.seat_of (from + i) ≡ None
+  pub idle : (i : ℕ) → i < n → ties.stage (from + i) ≡ stages.Idle
 
 -- the cells of the n places have the n seats right before this one
 pub record IsPlaced (ties : Ties) (id from n : ℕ) : Type 0 where

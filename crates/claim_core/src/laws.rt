@@ -11,6 +11,7 @@ ghost use Rattle.claim_core.specs.Laws.{EventsFollow, PrefixesAddNothing, StepsG
 ghost use Rattle.claim_core.specs.Laws.{FirstPlacesAreTold, SizesCountClaims, ClaimsBeginAtTheSize, ClaimsHaveTheirTurn};
 ghost use Rattle.claim_core.specs.Laws.{FilledPlacesStay, FillsAreOnce, FillsHaveOwners, BreaksHaveOwners};
 ghost use Rattle.claim_core.specs.Laws.{FinishedPlacesAreFound, ShownPlacesAreFinished, HistoriesAreOne};
+ghost use Rattle.claim_core.specs.Laws.{OpenedValuesAreFound, OpenedValuesAreNotMended, FirstStagesGoInOrder};
 ghost use Rattle.claim_core.specs.Laws.{AddedPlacesAreNotBegun};
 ghost use Rattle.claim_core.specs.Laws.{BegunRunsAreFilled, BegunPlacesAreOfTheRun};
 ghost use Rattle.claim_core.specs.Laws.{NothingIsNote, FullIsNote, GrowthIsNote, ReachIsNote, RangeIsNote};
@@ -194,6 +195,18 @@ pub fn added_places_are_not_begun()
 /// States that a look shows the value of a place that was filled before it in the history.
 pub fn finished_places_are_found()
     ensures { FinishedPlacesAreFound }
+{}
+
+/// States that a place which a word begins with, and which has a value, shows it to each look, and is never taken for
+/// mending.
+pub fn opened_values_are_found()
+    ensures found { OpenedValuesAreFound }
+    ensures not_mended { OpenedValuesAreNotMended }
+{}
+
+/// States at which stage each cell is of those that a word is opened with.
+pub fn first_stages_go_in_order()
+    ensures { FirstStagesGoInOrder }
 {}
 
 /// States that a place was filled before a look that shows its value, unless the history begins with the place.

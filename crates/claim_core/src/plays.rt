@@ -1,8 +1,9 @@
 //! What steps on cells and entries that are tied to the word tell the hand whose seat goes along.
 use crate::rule::OneList;
 use crate::seat_view::SeatView;
+use crate::terms::Terms;
 use std::marker::{Brand, PhantomData};
-use tie_core::{CellPlay, Entered, EntryPlay, RowPlay, Staged};
+use tie_core::{CellPlay, Entered, EntryPlay, Opened, RowPlay, Staged};
 
 impl Staged<SeatView> for OneList {
     ghost use Rattle.claim_core.specs.Plays.{stage_view};
@@ -19,6 +20,12 @@ impl Entered<SeatView> for OneList {
     ghost placed = { placed_view };
 
     ghost spent = { spent_view };
+}
+
+impl Opened<Terms> for OneList {
+    ghost use Rattle.claim_core.specs.Ties.{opened_by};
+
+    ghost opened_at = { opened_by };
 }
 
 /// The seats of a new block.

@@ -44,8 +44,8 @@ pub fn blocks_are_permitted()
     ensures unseen { UnseenPublishingIsPermitted }
 {}
 
-/// States that a whole hand may make an entry past all that there are, not set, or set to a block whose cells are
-/// as the word was opened.
+/// States that a whole hand may make an entry past all that there are: not set, past the places that the word began
+/// with; or set to a block whose cells are as the word was opened.
 pub fn entries_are_permitted()
     ensures empty { EntriesArePermitted }
     ensures adopted { AdoptionIsPermitted }

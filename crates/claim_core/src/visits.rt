@@ -6,6 +6,7 @@ ghost use Rattle.tie_core.specs.Visit.{HasVisited};
 ghost use Rattle.claim_core.specs.Hand.{HandView, IsHandOf, IsWholeHand, seen_size};
 ghost use Rattle.claim_core.specs.Gain.{EndsAt, GainsFrom, HasLent, IsEntryTo, IsLent, IsTiedTo};
 ghost use Rattle.claim_core.specs.Plays.{block_view};
+ghost use Rattle.claim_core.specs.Ties.{first_stages};
 
 use crate::hand::Hand;
 use crate::offers::CellTag;
@@ -19,7 +20,9 @@ use crate::word::Word;
 use atomic_table::Badge;
 use std::alloc::Allocator;
 use std::marker::Brand;
-use tie_core::{Desk, EntrySeat, EntryTag, Moving, SeatVisit, Seats, Visit};
+use tie_core::{
+    Desk, EntrySeat, EntryTag, Moving, PlacedSeat, SeatVisit, Seats, StagedSeats, Visit,
+};
 
 /// The seat of a block, or a blank in its place.
 pub type BlockSeat = Badge<SeatView>;
@@ -57,11 +60,12 @@ impl<A: Allocator> Word<A> {
     }
 
     /// Makes the seat of a new entry for the `n` places from `from` on, and its tag. Only a whole hand may, past
-    /// all entries that it knows. No step is taken.
+    /// all entries that it knows, and past the places that the word began with. No step is taken.
     pub fn enter(&self, hand: &mut Hand, from: u64, n: u64) -> (EntrySeat, RowTag)
         requires ours { IsHandOf self.now hand.old }
         requires whole { IsWholeHand hand.old }
         requires unlaid { hand.old.laid ≤ from }
+        requires past { self.now.base ≤ from }
         ensures entry { IsEntryTo self.now result.1.tie × (result.0.tie ≡ result.1.tie)
             × (result.1.from ≡ from) × (result.1.n ≡ n) }
         ensures ends { EndsAt (from + n) hand.old hand.new }
@@ -74,6 +78,7 @@ impl<A: Allocator> Word<A> {
         requires ours { IsHandOf self.now hand.old }
         requires whole { IsWholeHand hand.old }
         requires unlaid { hand.old.laid ≤ from }
+        requires past { self.now.base ≤ from }
         requires places { R.n ≡ n }
         ensures entry { IsEntryTo self.now result.1.tie × (result.0.tie ≡ result.1.tie)
             × (result.1.from ≡ from) × (result.1.n ≡ n) }
@@ -82,11 +87,60 @@ impl<A: Allocator> Word<A> {
         let shared = &self.table.shared;
         Desk::enter::<NewEntry<R>>(shared, &self.desk, &mut hand.badge, from, n)
     }
+
+    /// Makes the seats of the `n` cells of a block that is there already, for the places from `from` on, and that of
+    /// the block, for an entry that is set to it. The first tag is of the first cell, and the second one is the
+    /// entry's. Each cell is as it was when the word was opened. Only a whole hand may do this, past all entries
+    /// that it knows. No step is taken.
+    pub fn adopt(
+        &self,
+        hand: &mut Hand,
+        from: u64,
+        n: u64,
+    ) -> (StagedSeats, CellTag, PlacedSeat, RowTag)
+        requires ours { IsHandOf self.now hand.old }
+        requires whole { IsWholeHand hand.old }
+        requires unlaid { hand.old.laid ≤ from }
+        ensures seats { (result.0.ties ≡ row_of result.1.tie n) × (length result.0.ties ≡ n) }
+        ensures stages { (result.0.stages ≡ first_stages self.now.base self.now.filled from n)
+            × (length result.0.stages ≡ n) }
+        ensures tied { IsTiedTo self.now result.1.tie }
+        ensures entry { IsEntryTo self.now result.3.tie × (result.2.tie ≡ result.3.tie)
+            × (result.3.from ≡ from) × (result.3.n ≡ n)
+            × (result.2.number ≡ result.1.tie.id + n) }
+        ensures ends { EndsAt (from + n) hand.old hand.new }
+    {
+        self.adopt_at::<Brand>(hand, from, n)
+    }
+
+    // The same, by the number of places as the caller picks it.
+    fn adopt_at<R: EntryAt>(
+        &self,
+        hand: &mut Hand,
+        from: u64,
+        n: u64,
+    ) -> (StagedSeats, CellTag, PlacedSeat, RowTag)
+        requires ours { IsHandOf self.now hand.old }
+        requires whole { IsWholeHand hand.old }
+        requires unlaid { hand.old.laid ≤ from }
+        requires places { R.n ≡ n }
+        ensures seats { (result.0.ties ≡ row_of result.1.tie n) × (length result.0.ties ≡ n) }
+        ensures stages { (result.0.stages ≡ first_stages self.now.base self.now.filled from n)
+            × (length result.0.stages ≡ n) }
+        ensures tied { IsTiedTo self.now result.1.tie }
+        ensures entry { IsEntryTo self.now result.3.tie × (result.2.tie ≡ result.3.tie)
+            × (result.3.from ≡ from) × (result.3.n ≡ n)
+            × (result.2.number ≡ result.1.tie.id + n) }
+        ensures ends { EndsAt (from + n) hand.old hand.new }
+    {
+        let shared = &self.table.shared;
+        Desk::adopt::<NewEntry<R>>(shared, &self.desk, &mut hand.badge, from, n)
+    }
 }
 
 impl Hand {
-    /// Lends the seat for a look at the entry of a place that was claimed since the word was opened. Callers
-    /// pass a type parameter of their own for the entry's places.
+    /// Lends the seat for a look at the entry of a place that the hand has seen. Callers pass a type parameter of
+    /// their own for the entry's places.
     #[inline(always)]
     pub fn visit_look<'a, R: EntryAt, A: Allocator>(
         &mut self,
@@ -98,7 +152,7 @@ impl Hand {
         requires tied { IsEntryTo word.now tag.now.tie }
         requires places { (R.from ≡ tag.now.from) × (R.n ≡ tag.now.n) }
         requires there { (R.from ≤ place) × (place < R.from + R.n) }
-        requires claimed { (self.old.of.base ≤ place) × (place < seen_size self.old) }
+        requires seen { place < seen_size self.old }
         ensures lent { IsLent result.about.table_id result.about.view self.old self.new }
         ensures visit { (result.tie ≡ tag.now.tie) × (result.brought ≡ None)
             × (result.made ≡ None) × (result.about.told ≡ place) }
@@ -137,7 +191,6 @@ impl Hand {
         requires ours { IsHandOf word.now self.old }
         requires tied { IsEntryTo word.now tag.now.tie }
         requires places { (R.from ≡ tag.now.from) × (R.n ≡ tag.now.n) }
-        requires past { self.old.of.base ≤ R.from }
         requires block { (block.old.table_id ≡ word.now.table)
             × (block.old.views ≡ block_view R.first R.n ∷ []) }
         ensures lent { IsLent result.about.table_id result.about.view self.old self.new }
@@ -173,7 +226,6 @@ impl Hand {
     ) -> UnseenVisit<'a>
         requires ours { IsHandOf word.now self.old }
         requires tied { IsEntryTo word.now tag.now.tie }
-        requires past { self.old.of.base ≤ tag.now.from }
         requires block { (block.old.table_id ≡ word.now.table)
             × ((first : ℕ) × (block.old.views ≡ block_view first tag.now.n ∷ [])) }
         ensures lent { IsLent result.about.table_id result.about.view self.old self.new }

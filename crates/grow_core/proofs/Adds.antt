@@ -60,8 +60,3 @@ pub fills_join : (actor from m n next : ℕ) → from + m ≡ next
     → fill_steps actor from (m + n) ≡ fill_steps actor from m ++ fill_steps actor next n
 fills_join actor from m n next at =
     runs_join (λ place. fill_event actor place ∷ []) from m n ∙ ap (λ k. fill_steps actor from m ++ fill_steps actor k n) at
-
-pub breaks_join : (actor from m n next : ℕ) → from + m ≡ next
-    → break_steps actor from (m + n) ≡ break_steps actor from m ++ break_steps actor next n
-breaks_join actor from m n next at =
-    runs_join (λ place. break_event actor place ∷ []) from m n ∙ ap (λ k. break_steps actor from m ++ break_steps actor k n) at

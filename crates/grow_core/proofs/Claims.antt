@@ -10,11 +10,11 @@ use Rattle.claim_core.specs.declared.run.Run.{Run}
 use Rattle.claim_core.specs.Hand.{HandView, AddsRun, KeepsCells, KeepsOwn, OwnsRun, SeesOwn, SeesSize, seen_size, single}
 use Rattle.claim_core.specs.Laws.{OwnPlacesStay, AddedPlacesAreOfTheRun}
 use Rattle.cell_core.specs.Block.{BlockView}
-use Rattle.table_core.specs.Table.{KeyView, IsBlockOf}
+use Rattle.table_core.specs.Table.{KeyView, IsBlockOf, IsTiedBlockOf}
 use Rattle.grow_core.specs.Keys.{KeyRow, AreKeys, HasKeysOfRun, IsKeyAt, IsKeyed, KeepsKeys, key_at, layout_in, mark_of}
 use Rattle.grow_core.specs.Making.{IsClaimed}
 use Rattle.grow_core.specs.Steps.{FindsMore, KeepsHand, WorksIn}
-use Rattle.grow_core.specs.Ties.{IsBlockBy, IsCellOf, KnowsRows}
+use Rattle.grow_core.specs.Ties.{IsCellOf, KnowsRows}
 use Rattle.grow_core.specs.Vector.{VectorView, SeesMore, layout_of}
 use Rattle.grow_core.proofs.KeyRows.{keyed_adds, keyed_sees, keys_of_one}
 use Rattle.grow_core.proofs.Later.{adds_after, more_after}
@@ -55,9 +55,9 @@ held_still a b from n row works holds =
 module _ {T : Type 0} (vector : VectorView T) where
   -- a place of a segment that the hand has found is a cell of its block
   pub cell_found : (segment place offset : ℕ) (key : KeyView) (block : BlockView) → IsKeyAt (mark_of vector.segments) segment key → block ≡ key.block
-      → IsBlockOf (layout_of vector) key.segment key.block → IsBlockBy vector.segments vector.laid key.segment key.block
+      → IsBlockOf (layout_of vector) key.segment key.block → IsTiedBlockOf vector.segments key.segment key.block
       → HasPlace (layout_of vector) segment place → segment_start (layout_of vector) segment + offset ≡ place
-      → IsCellOf vector.segments vector.laid key block place offset
+      → IsCellOf vector.segments key block place offset
   cell_found segment place offset key block at is long by there sum =
       let there' : HasPlace (layout_of vector) key.segment place = subst (λ (k : ℕ). HasPlace (layout_of vector) k place) (sym at.at) there in
       let sum' : segment_start (layout_of vector) key.segment + offset ≡ place =

@@ -1,10 +1,8 @@
 -- Parts of a list that is copied from a number on.
-use Rattle.std.proofs.Common.{◌≡◌, ℕ, zero, suc, ◌+◌, ◌<◌, ◌≤◌, List, [], ◌∷◌, ◌++◌, length, drop, Result, Ok, Err, IfOk, Some, sym, ap, subst, ◌∙◌, arith}
+use Rattle.std.proofs.Common.{◌≡◌, ℕ, zero, suc, ◌+◌, ◌≤◌, List, [], ◌∷◌, ◌++◌, length, drop, Some, subst, arith}
 use Rattle.std.specs.Prelude.{slice_get}
 use Rattle.std.proofs.lemmas.List.{length-drop, length-take-le}
-use Rattle.grow_core.specs.declared.stretch.Stretch.{Stretch}
-use Rattle.grow_core.specs.Vector.{VectorView}
-use Rattle.grow_core.specs.Stretch.{IsStretchOf, TakesFrom, values_from}
+use Rattle.grow_core.specs.Stretch.{values_from}
 use Rattle.grow_core.proofs.Stretches.{take_next}
 
 -- an element after the first ones
@@ -23,17 +21,3 @@ values_from_next xs first i x h = take_next (drop first xs) i x (slice_get-drop 
 -- there are n of them
 pub length-values_from : {X : Type 0} (xs : List X) (first n : ℕ) → first + n ≤ length xs → length (values_from xs first n) ≡ n
 length-values_from xs first n within = length-take-le n (drop first xs) (omega (arith, length-drop first xs, within))
-
--- a place that is filled alone takes one value
-pub takes_alone : {T X : Type 0} (vector : VectorView T) (from : ℕ) (values : List T) (first left : ℕ) (x : T) (filled : Result (Stretch T) X)
-    → slice_get values first ≡ Some x → 0 < left → IfOk filled (IsStretchOf vector from (x ∷ [])) → IfOk filled (TakesFrom vector from values first left)
-takes_alone vector from values first left x (Ok stretch) at some is =
-    let one : stretch.n ≡ 1 = is.n in
-    let e : first ≡ first + 0 = omega arith in
-    let next = values_from_next values first 0 x (subst (λ (k : ℕ). slice_get values k ≡ Some x) e at) in
-    record {
-      is = subst (λ vs. IsStretchOf vector from vs stretch) (sym (ap (λ (n : ℕ). values_from values first n) one ∙ next)) is;
-      some = omega (arith, one);
-      few = omega (arith, one, some);
-    }
-takes_alone vector from values first left x (Err e) at some is = tt

@@ -7,11 +7,9 @@ use Rattle.std.proofs.Math.Pow.{pow-lt, pow_pos}
 use mathlib.Core.Logic.{dite}
 use native.Mathlib.Decide.{ℕ_discrete}
 use lib.Seq.{get_or-set_other}
-use Rattle.std.proofs.lemmas.Bool.{cases_lt}
 use Rattle.std.proofs.lemmas.List.{append-nil}
 use Rattle.std.proofs.lemmas.List.Elements.{Contains-append_left, Contains-append_right}
 use Rattle.seg_core.specs.Segment.{segment_start, segment_end, segment_count}
-use Rattle.seg_core.proofs.Doubling.{segment_start-next}
 use Rattle.tie_core.specs.Tie.{Tie, IsTied}
 use Rattle.tie_core.specs.Tags.{TagView}
 use Rattle.tie_core.specs.Visit.{Content}
@@ -22,35 +20,20 @@ use Rattle.claim_core.specs.Gain.{Gain, Gains, GainsFrom}
 use Rattle.claim_core.specs.Plays.{found_gain, scout_gain, set_gain}
 use Rattle.cell_core.specs.Block.{BlockView, block_len}
 use Rattle.cell_core.specs.Mould.{first_seat, last_seat}
-use Rattle.cell_core.specs.Slot.{ArePlain}
-use Rattle.table_core.specs.Table.{TableView, KeyView, IsBlockOf, IsLengthOf, IsPlainAt, IsTiedBlockOf, FitsTie, HasSet, content_in}
+use Rattle.table_core.specs.Table.{TableView, KeyView, IsBlockOf, IsLengthOf, IsTiedBlockOf, FitsTie, HasSet, content_in}
 use Rattle.grow_core.specs.Keys.{AreOfEither, KeyRow, PutsKey, key_at, layout_in}
 use Rattle.grow_core.specs.Logs.{pending_look, step_of}
 use Rattle.grow_core.specs.Steps.{FindsMore, LooksAt}
-use Rattle.grow_core.specs.Ties.{TagRow, IsTagOf, AreTiedFrom, ArePlainBelow, IsBlockBy, IsTiedBlock, KnowsRow, KnowsRows, row_at}
+use Rattle.grow_core.specs.Ties.{TagRow, IsTagOf, AreTiedTo, IsTiedBlock, KnowsRow, KnowsRows, row_at}
 use Rattle.grow_core.proofs.Adds.{one_step, prefix_same}
-use Rattle.grow_core.proofs.PlainSegments.{plain_cell}
 use Rattle.grow_core.proofs.Works.{rows_still}
 use Rattle.grow_core.proofs.Logs.{log_goes_on}
-use Rattle.grow_core.proofs.Places.{starts_le}
 use Rattle.grow_core.proofs.TiedSteps.{gains_keep, gains_rows}
 
 -- a segment has places
 pub rises : (f k : ℕ) → segment_start f k < segment_end f k
 rises f zero = pow_pos (0 + f)
 rises f (suc k) = pow-lt (let e : k + f < suc k + f = omega arith in e)
-
--- a segment that begins at or after the end of the first `count` ones is not one of them
-pub laid_from : (f count segment : ℕ) → segment_start f count ≤ segment_start f segment → count ≤ segment
-laid_from f count segment le =
-    ⊎_elim
-    (λ less. let next = starts_le f (segment + 1) count (omega (arith, less)) in absurd (omega (arith, next, segment_start-next f segment, le, rises f segment)))
-    (λ ge. ge) (cases_lt segment count)
-
--- one that ends where the first `count` ones end, or before, is one of them
-pub opened_before : (f count segment : ℕ) → segment_end f segment ≤ segment_start f count → segment < count
-opened_before f count segment le =
-    ⊎_elim (λ less. less) (λ ge. let later = starts_le f count segment ge in absurd (omega (arith, later, le, rises f segment))) (cases_lt segment count)
 
 -- what a hand has gained that knows no more places begun
 pub gains_find : (gain : Gain) (old new : HandView) → gain.begun ≡ [] → Gains gain old new → FindsMore old new
@@ -128,24 +111,17 @@ tag_there [] i less = absurd (omega (arith, less))
 tag_there (t ∷ tags) zero less = (t, refl)
 tag_there (t ∷ tags) (suc i) less = tag_there tags i (omega (arith, less))
 
--- an entry that is tied has its tag
-pub tagged : (word : WordView) (segments : TableView) (cells : Tie) (tags : TagRow) (count segment : ℕ) → AreTiedFrom word segments cells tags count → count ≤ segment
+-- an entry of a vector has its tag
+pub tagged : (word : WordView) (segments : TableView) (cells : Tie) (tags : TagRow) (segment : ℕ) → AreTiedTo word segments cells tags
     → segment < segment_count segments.layout → (tag : TagView) × IsTagOf word segments cells segment tag
-tagged word segments cells tags count segment tied after within =
-    let at = tag_there tags (segment - count) (omega (arith, after, within, tied.all)) in let same : count + (segment - count) ≡ segment = omega (arith, after) in
-    (at.0, subst (λ (k : ℕ). IsTagOf word segments cells k at.0) same (tied.each (segment - count) at.0 at.1))
+tagged word segments cells tags segment tied within =
+    let at = tag_there tags segment (let all = tied.all in omega (arith, all, within)) in (at.0, tied.each segment at.0 at.1)
 
--- the block of an entry is tied as the entry says if the entry was tied since the opening, and otherwise it is plain
-pub block_by : (word : WordView) (segments : TableView) (cells : Tie) (tags : TagRow) (count segment : ℕ) (block : BlockView)
-    → AreTiedFrom word segments cells tags count → ArePlainBelow segments count → segment < segment_count segments.layout → IsBlockOf segments.layout segment block
-    → FitsTie segments segment block → (IsPlainAt segments segment → ArePlain block.cells)
-    → IsBlockBy segments (segment_start segments.layout count) segment block
-block_by word segments cells tags count segment block tied plain within long fits plain_cells = record {
-  tied = λ low.
-      let at = tagged word segments cells tags count segment tied (laid_from segments.layout count segment low) within in
-      record { length = long; mould = fits at.0.tie at.1.by.tie };
-  plain = λ low. plain_cells (plain segment (⊎_elim (λ less. less) (λ ge. let le = starts_le segments.layout count segment ge in absurd (omega (arith, le, low))) (cases_lt segment count)));
-}
+-- the block of an entry is tied as the entry says
+pub tied_block : (word : WordView) (segments : TableView) (cells : Tie) (tags : TagRow) (segment : ℕ) (block : BlockView) → AreTiedTo word segments cells tags
+    → segment < segment_count segments.layout → IsBlockOf segments.layout segment block → FitsTie segments segment block → IsTiedBlockOf segments segment block
+tied_block word segments cells tags segment block tied within long fits =
+    let at = tagged word segments cells tags segment tied within in record { length = long; mould = fits at.0.tie at.1.by.tie }
 
 -- blocks that are tied as their entry says have the length of its segment
 pub tied_lengths : (t : TableView) (k : ℕ) (found : Option (Bor BlockView × KeyView)) → IfSome found (λ u. IsTiedBlockOf t k u.0.now)
@@ -165,10 +141,6 @@ rows_put a b row row' segment key finds knows here puts there s k small is tied 
     (λ other.
     let old : key_at row s ≡ Some k = sym (ap (λ (r : KeyRow). key_at r s) puts ∙ get_or-set_other row segment s (Some key) None other) ∙ is in
     rows_still a b finds.keeps finds.rows row knows s k small old tied)
-
--- a block of plain cells is not tied
-pub not_tied : (hand : HandView) (segment : ℕ) (block : BlockView) → ArePlain block.cells → KnowsRow hand segment block
-not_tied hand segment block plain tied = absurd (subst IsTied (plain_cell block 0 plain) tied)
 
 -- a hand that has found nothing
 pub finds_none : (a : HandView) → FindsMore a a

@@ -1,6 +1,7 @@
--- What a read or a mend logs, and what it returns of a place that its hand had seen finished.
-use Rattle.std.proofs.Common.{◌≡◌, ℕ, List, [], ◌∷◌, ◌++◌, ◌<◌, if◌then◌else◌, Option, Some, None, refl, sym, ap, ◌∙◌, subst, append_assoc}
-use Rattle.std.specs.Prelude.{Result, Ok, Err, IsErrAnd, IsOk, slice_get}
+-- What a read or a mend logs, and what it returns of a place that its hand had seen finished, or that has a value in the
+-- opened list.
+use Rattle.std.proofs.Common.{◌≡◌, ℕ, zero, suc, List, [], ◌∷◌, ◌++◌, ◌<◌, if◌then◌else◌, Option, Some, None, length, refl, sym, ap, ◌∙◌, subst, arith, append_assoc}
+use Rattle.std.specs.Prelude.{Bool, true, false, Result, Ok, Err, IfErr, IsErrAnd, IsOk, get_or, is_some, slice_get}
 use Rattle.std.specs.List.{Contains}
 use Rattle.std.proofs.lemmas.List.Elements.{Contains-append_left}
 use Rattle.std.proofs.lemmas.Option.{none-some}
@@ -15,19 +16,25 @@ use Rattle.book_core.proofs.Histories.{IsHistory-split, finishes_fill}
 use Rattle.claim_core.specs.Hand.{HandView, seen_size}
 use mathlib.Core.List.{IsPrefix}
 use Rattle.claim_core.specs.History.{Log, Adds, AddsEvents, IsHistoryOf, first_list, value_cell, fill_event, mend_event, mender_of, past_event}
-use Rattle.claim_core.specs.Laws.{FinishedPlacesAreFound}
+use Rattle.claim_core.specs.Laws.{FinishedPlacesAreFound, OpenedValuesAreFound, OpenedValuesAreNotMended}
+use Rattle.claim_core.specs.Word.{WordView}
 use Rattle.grow_core.specs.declared.errors.AtError.{AtError}
 use Rattle.grow_core.specs.declared.errors.AtError.TheVariants as at
 use Rattle.grow_core.specs.declared.errors.MendError.{MendError}
 use Rattle.grow_core.specs.declared.errors.MendError.TheVariants as mend
 use Rattle.grow_core.specs.declared.read.At.{At}
-use Rattle.grow_core.specs.Logs.{IsFinishedIn, LogsLaid, LogsMend, LogsMendRefusal, LogsNoMend, LogsRead, fill_steps, step_of, mend_steps, pending_look, broken_look}
-use Rattle.grow_core.specs.Mend.{IsMendDue, IsSeen, IsUnmendedAt, SaysFilled}
-use Rattle.grow_core.specs.Shown.{unmended_steps}
+use Rattle.grow_core.specs.Logs.{IsFinishedIn, LogsMend, LogsMendRefusal, LogsNoMend, LogsRead, fill_steps, step_of, mend_steps, pending_look, value_look, broken_look}
+use Rattle.grow_core.specs.Mend.{IsMendDue, IsSeen, IsUnmendedAt, SaysFilled, TellsNoOther, TellsValue}
+use Rattle.grow_core.specs.Parts.{filled_in}
+use Rattle.grow_core.specs.Read.{ShowsNoOther, ShowsValue}
+use Rattle.grow_core.specs.Shown.{LogsShown, unmended_steps}
+use Rattle.grow_core.specs.declared.read.Shown.{Shown}
+use Rattle.grow_core.specs.declared.read.Shown.TheVariants as shown
 use Rattle.grow_core.specs.Token.{PlacedView}
-use Rattle.grow_core.specs.Vector.{VectorView, IsLaid}
+use Rattle.grow_core.specs.Vector.{VectorView, IsOpenedAt}
 use Rattle.grow_core.proofs.Adds.{one_step, steps_after, steps_go_on, steps_join}
 use Rattle.grow_core.proofs.Logs.{events_after}
+use Rattle.grow_core.proofs.Places.{within_length}
 
 -- The hand had seen the place filled
 module _ (old new : HandView) (place : ℕ) (done : IsFinishedIn old.log place) (history : IsHistoryOf new.of.limit new.of.base new.of.filled new.log) where
@@ -69,31 +76,65 @@ module _ (old new : HandView) (place : ℕ) (done : IsFinishedIn old.log place) 
 -- ---- What a read or a mend returns of such a place
 
 module _ (law : FinishedPlacesAreFound) {T : Type 0} (vector : VectorView T) (place : ℕ) (old new : HandView) (done : IsFinishedIn old.log place)
-    (history : IsHistoryOf new.of.limit new.of.base new.of.filled new.log) (laid : IsLaid vector place) where
-  pub finished_read : (result : Result (At T) AtError) → LogsRead vector place old new result → IsOk result
+    (history : IsHistoryOf new.of.limit new.of.base new.of.filled new.log) where
+  pub finished_read : (result : Result (At T) AtError) → LogsRead place old new result → IsOk result
   finished_read (Ok found) logs = refl
   finished_read (Err (at.OutOfRange size)) logs = absurd (not_past old new place done history law size logs)
-  finished_read (Err at.Pending) logs = absurd (not_pending old new place done history law (logs laid))
-  finished_read (Err (at.Broken spoilt)) logs = absurd (not_broken old new place done history law (logs laid))
+  finished_read (Err at.Pending) logs = absurd (not_pending old new place done history law logs)
+  finished_read (Err (at.Broken spoilt)) logs = absurd (not_broken old new place done history law logs)
 
   pub finished_mend : (result : Result (PlacedView T) (MendError T × T)) → LogsMend vector place old new result → IsErrAnd result (λ r. SaysFilled r.0)
-  finished_mend (Ok placed) logs = absurd (not_mended old new place done history vector.word.limit (fill_steps (mender_of vector.word.limit place) place 1) (logs laid))
+  finished_mend (Ok placed) logs = absurd (not_mended old new place done history vector.word.limit (fill_steps (mender_of vector.word.limit place) place 1) logs)
   finished_mend (Err (mend.OutOfRange size, back)) logs = absurd (not_past old new place done history law size logs)
-  finished_mend (Err (mend.Pending, back)) logs = absurd (not_pending old new place done history law (logs laid))
+  finished_mend (Err (mend.Pending, back)) logs = absurd (not_pending old new place done history law logs)
   finished_mend (Err (mend.Filled placed, back)) logs = tt
+
+-- ---- What they return of a place that has a value in the opened list
+
+-- which members have a value
+filled_there : {X : Type 0} (members : List (Option X)) (place : ℕ) (x : X) → slice_get members place ≡ Some (Some x) → get_or (filled_in members) place false ≡ true
+filled_there [] place x at = absurd (let z = at in cc)
+filled_there {X} (member ∷ members) zero x at = let same : member ≡ Some x = (let z = at in cc) in ap (λ (m : Option X). is_some m) same
+filled_there (member ∷ members) (suc place) x at = filled_there members place x at
+
+module _ {T : Type 0} (vector : VectorView T) (place : ℕ) (x : T) (is : IsOpenedAt vector place x) (below : length vector.opened ≡ vector.word.base)
+    (filled : vector.word.filled ≡ filled_in vector.opened) (old new : HandView) (ours : new.of ≡ vector.word) (history : IsHistoryOf new.of.limit new.of.base new.of.filled new.log) where
+  opened_below : place < new.of.base
+  opened_below = let near = within_length vector.opened place (Some x) is in let base = ap (λ (w : WordView). w.base) ours in omega (arith, near, below, base)
+
+  opened_filled : get_or new.of.filled place false ≡ true
+  opened_filled = ap (λ (w : WordView). get_or w.filled place false) ours ∙ ap (λ (l : List Bool). get_or l place false) filled ∙ filled_there vector.opened place x is
+
+  -- each look shows its value
+  opened_look : OpenedValuesAreFound → (reply : Reply) → Adds old.log (step_of (Look 0 place, reply)) new.log → reply ≡ replies.Value place
+  opened_look law reply adds = law new.of.limit new.of.base place new.of.filled old.log new.log reply opened_below opened_filled adds history
+
+  pub opened_shown : OpenedValuesAreFound → (found : Shown T) → LogsShown place old new found → ShowsNoOther x found → ShowsValue x found
+  opened_shown law shown.Pending logs other = absurd (let same = opened_look law replies.Pending logs in cc)
+  opened_shown law (shown.Filled at) logs other = other
+  opened_shown law (shown.Broken spoilt) logs other = absurd (let same = opened_look law replies.Broken logs in cc)
+
+  pub opened_mended : OpenedValuesAreFound → OpenedValuesAreNotMended → (result : Result (PlacedView T) (MendError T × T)) → LogsMend vector place old new result
+      → IfErr result (λ r. TellsNoOther x r.0) → IfErr result (λ r. IsUnmendedAt vector place r.0) → IsErrAnd result (λ r. TellsValue x r.0)
+  opened_mended law stay (Ok placed) (mid, added, others) other seen = absurd
+      (stay new.of.limit new.of.base (mender_of vector.word.limit place) place new.of.filled old.log new.log replies.Done opened_below opened_filled
+      (mid, added, steps_go_on mid new.log (fill_steps (mender_of vector.word.limit place) place 1) others) history)
+  opened_mended law stay (Err (mend.OutOfRange size, back)) logs other seen = absurd seen
+  opened_mended law stay (Err (mend.Pending, back)) logs other seen = absurd (let same = opened_look law replies.Pending logs in cc)
+  opened_mended law stay (Err (mend.Filled placed, back)) logs other seen = other
 
 -- ---- A mend by a hand that has seen more before
 
 module _ {T : Type 0} (vector : VectorView T) (place : ℕ) (a b c : HandView) (more : IsPrefix a.log b.log) where
   pub mend_after : (result : Result (PlacedView T) (MendError T × T)) → LogsMend vector place b c result → LogsMend vector place a c result
-  mend_after (Ok placed) logs = λ laid. steps_after a.log b.log c.log (mend_steps vector.word.limit place) more (logs laid)
+  mend_after (Ok placed) logs = steps_after a.log b.log c.log (mend_steps vector.word.limit place) more logs
   mend_after (Err (mend.OutOfRange size, back)) logs = events_after a.log b.log c.log (past_event place size ∷ []) more logs
-  mend_after (Err (mend.Pending, back)) logs = λ laid. steps_after a.log b.log c.log (unmended_steps {T = T} place mend.Pending) more (logs laid)
-  mend_after (Err (mend.Filled placed, back)) logs = λ laid. steps_after a.log b.log c.log (unmended_steps place (mend.Filled placed)) more (logs laid)
+  mend_after (Err (mend.Pending, back)) logs = steps_after a.log b.log c.log (unmended_steps {T = T} place mend.Pending) more logs
+  mend_after (Err (mend.Filled placed, back)) logs = steps_after a.log b.log c.log (unmended_steps place (mend.Filled placed)) more logs
 
 -- a place was not mended, and the look that says why is logged
 pub no_mend : {T : Type 0} (vector : VectorView T) (place spot : ℕ) (old new : HandView) (error : MendError T) (back : T) → IsUnmendedAt vector spot error
-    → LogsLaid vector place old new (unmended_steps place error) → LogsNoMend vector place old new (error, back)
+    → Adds old.log (unmended_steps place error) new.log → LogsNoMend place old new (error, back)
 no_mend vector place spot old new (mend.OutOfRange size) back is logs = absurd is
 no_mend vector place spot old new mend.Pending back is logs = logs
 no_mend vector place spot old new (mend.Filled placed) back is logs = logs

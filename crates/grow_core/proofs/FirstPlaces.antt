@@ -2,7 +2,6 @@
 use Rattle.std.proofs.Common.{◌≡◌, ℕ, Bool, false, List, length, get_or, if◌then◌else◌, Option, Some, None, is_some, option_map, slice_get, ap, ◌∙◌, subst, arith}
 use Rattle.std.proofs.lemmas.List.{length-map}
 use Rattle.std.proofs.lemmas.Option.{slice_get-map, slice_get_within, get_or_from_slice_get}
-use base.Fml.{Lft}
 use Rattle.claim_core.specs.Word.{WordView, first_at}
 use Rattle.claim_core.specs.History.{value_cell, broken_cell}
 use Rattle.claim_core.specs.Laws.{FirstPlacesAreTold}
@@ -31,8 +30,8 @@ first_is law word members long filled place member there =
     ap (λ (fs : List Bool). get_or fs place false) filled ∙ filled_at members place member there in
     law word place (omega (arith, within, long)) ∙ ap (λ (b : Bool). Some (if b then value_cell place else broken_cell)) told
 
-pub begins_as_opened : {T : Type 0} {word : WordView} {segments : TableView} {keys : KeyRow} {known : List (MemberView T)} {ended : Lft} {count : ℕ} {cells : Tie} {tags : TagRow} {vector : VectorView T}
-    → FirstPlacesAreTold → IsShared word segments keys known ended count cells tags → vector_of word segments known count ≡ vector
+pub begins_as_opened : {T : Type 0} {word : WordView} {segments : TableView} {keys : KeyRow} {known : List (MemberView T)} {count : ℕ} {cells : Tie} {tags : TagRow} {vector : VectorView T}
+    → FirstPlacesAreTold → IsShared word segments keys known count cells tags → vector_of word segments known ≡ vector
     → BeginsAsOpened vector
 begins_as_opened {T} {word} {segments} {keys} {known} law shared view_is =
     let long : length (values_in known) ≡ word.base = length-map known (λ (m : MemberView T). m.value) ∙ shared.whole.all in

@@ -1,5 +1,5 @@
 -- Cells of a block whose ties are fixed, one after another, at the stage that a hand's history shows.
-use Rattle.std.proofs.Common.{suc, ◌≡◌, ℕ, ◌+◌, ◌<◌, ◌≤◌, List, [], Option, Some, None, refl, sym, ap, ◌∙◌, subst, arith}
+use Rattle.std.proofs.Common.{◌≡◌, ℕ, ◌+◌, ◌<◌, ◌≤◌, List, [], Option, Some, None, refl, sym, ap, ◌∙◌, subst, arith}
 use lib.Seq.{get_or-set_same}
 use mathlib.Core.Logic.{dite}
 use native.Mathlib.Decide.{ℕ_discrete}
@@ -9,16 +9,13 @@ use Rattle.claim_core.specs.Hand.{HandView}
 use Rattle.claim_core.specs.Plays.{ReadsBy, ShowsAt, cell_stage}
 use Rattle.claim_core.specs.Ties.{Finds}
 use Rattle.cell_core.specs.Block.{BlockView, FixesCell, KeepsOtherCells, block_len, cell_at}
-use Rattle.cell_core.specs.Fixed.{fixed_cell, fixed_in, stage_in}
+use Rattle.cell_core.specs.Fixed.{fixed_cell, stage_in}
 use Rattle.cell_core.specs.Mould.{first_seat}
-use Rattle.cell_core.specs.Slot.{Names, ArePlain}
+use Rattle.cell_core.specs.Slot.{Names}
 use Rattle.grow_core.specs.Closing.{AreFixed, AreToldBy, untied}
 use Rattle.grow_core.specs.Keys.{layout_in}
 use Rattle.grow_core.specs.Ties.{KnowsRow, row_at}
 use Rattle.grow_core.specs.Token.{place_in}
-use Rattle.grow_core.proofs.Places.{starts_le}
-use Rattle.grow_core.proofs.PlainSegments.{plain_cell}
-use Rattle.grow_core.proofs.Settled.{segment_ends_later}
 
 -- the first i cells of a segment are fixed, and the history shows the place of each so; the others stay
 pub record AreFixedUpTo (hand : HandView) (f segment : ℕ) (old new : BlockView) (i : ℕ) : Type 0 where
@@ -67,13 +64,11 @@ pub read_shows : (old new : HandView) (told place : ℕ) (made : Option Made) (s
 read_shows old new told place made s reads is at = subst (λ (u : ℕ × Option Made). ReadsBy u.0 u.1 old new) (λ i. (at i, is i)) reads
 
 -- all cells are fixed
-pub all_fixed : (hand : HandView) (f laid segment : ℕ) (old new : BlockView) (n : ℕ) → AreFixedUpTo hand f segment old new n → block_len old ≤ n → segment_start f laid ≤ segment_start f segment
-    → AreFixed f (segment_start f laid) segment old new
-all_fixed hand f laid segment old new n are all past = record {
+pub all_fixed : (hand : HandView) (f segment : ℕ) (old new : BlockView) (n : ℕ) → AreFixedUpTo hand f segment old new n → block_len old ≤ n → AreFixed old new
+all_fixed hand f segment old new n are all = record {
   len = are.len;
-  same = λ before. absurd (omega (arith, before, past));
   cells = are.cells;
-  fixed = λ is q low. let len = are.len in let was = are.fixed q (omega (arith, low, len, all)) in (was.0, was.1);
+  fixed = λ q low. let len = are.len in let was = are.fixed q (omega (arith, low, len, all)) in (was.0, was.1);
 }
 
 pub all_told : (hand : HandView) (f segment : ℕ) (old new : BlockView) (n : ℕ) → AreFixedUpTo hand f segment old new n → block_len old ≤ n → AreToldBy hand f segment new
@@ -81,22 +76,3 @@ all_told hand f segment old new n are all q s low at =
     let len = are.len in let was = are.fixed q (omega (arith, low, len, all)) in
     let both : Some was.0 ≡ Some s = sym was.1 ∙ at in let same : was.0 ≡ s = (let z = both in cc) in
     subst (λ (t : Stage). ShowsAt hand (place_in f segment q) (cell_stage t)) same was.2
-
--- a segment of the opened list stays
-pub before_laid : (f laid segment : ℕ) → segment < laid → segment_start f segment < segment_start f laid
-before_laid f laid segment low =
-    let ends = starts_le f (suc segment) laid (omega (arith, low)) in let more = segment_ends_later f segment in omega (arith, ends, more)
-
-pub none_to_fix : (f laid segment : ℕ) (block : BlockView) → segment_start f segment < segment_start f laid → AreFixed f (segment_start f laid) segment block block
-none_to_fix f laid segment block before = record {
-  len = refl;
-  same = λ is. refl;
-  cells = λ q. refl;
-  fixed = λ past q low. absurd (omega (arith, before, past));
-}
-
-no_stage : (γ : Names) (s : Stage) → γ.tied ≡ None → stage_in γ ≡ Some s → ⊥
-no_stage γ s plain at = let z : None ≡ Some s = sym (ap fixed_in plain) ∙ at in cc
-
-pub none_to_tell : (hand : HandView) (f segment : ℕ) (block : BlockView) → ArePlain block.cells → AreToldBy hand f segment block
-none_to_tell hand f segment block plain q s low at = absurd (no_stage (cell_at block q) s (plain_cell block q plain) at)

@@ -9,10 +9,12 @@ use Rattle.cell_core.specs.Slot.{Names}
 use Rattle.cell_core.specs.Block.{BlockView, PlacedView, AreAtFilled, AreFilledFrom, IsMemberAt, IsPlacedAt, cell_at}
 use Rattle.cell_core.specs.Fixed.{stage_in}
 use Rattle.cell_core.specs.Member.{MemberView, HasNames}
-use Rattle.grow_core.specs.Parts.{AreBrokenIn, values_in}
+use Rattle.tie_core.specs.Tie.{Stage}
+use Rattle.grow_core.specs.Parts.{AreBrokenIn, member_stage, values_in}
 use Rattle.grow_core.specs.Closing.{AreSettled, KeepsKnown, KeepsKnownFrom}
 use Rattle.grow_core.proofs.Filling.{slice_get-append}
 use Rattle.grow_core.proofs.Places.{value_at, within_length, kept_at, broken_append}
+use Rattle.grow_core.proofs.Staged.{staged_filled}
 
 -- what is known of a cell with a value has the value's name
 named_of : {T : Type 0} (γ : Names) (v : Option T) (name : ℕ) (epoch : Lft) → HasNames γ v name epoch → v ≢ None → name ≡ γ.value_name
@@ -59,6 +61,7 @@ settled_found block offset opened place row row' found epoch n is all filled ful
   values = keeps;
   broken = none_broken epoch found (λ i m got. (filled i m got).1);
   stages = λ i m got s at. ((λ some. full i s (let near = within_length found i m got in omega (arith, near, all)) at), (λ is. (filled i m got).1));
+  fixed = λ i m got s at. at ∙ ap (λ (t : Stage). Some t) (full i s (let near = within_length found i m got in omega (arith, near, all)) at ∙ sym (staged_filled m (filled i m got).1));
   before = λ q low. refl;
   after = λ q past. refl;
 }
@@ -109,6 +112,12 @@ module _ {T : Type 0} (old mid : BlockView) (offset : ℕ) (opened : List (Membe
             (λ (left : slice_get run.settled i ≡ Some x). run.stages i x left s at)
             (λ (right : (j : ℕ) × (i ≡ length run.settled + j) × (slice_get next.settled j ≡ Some x)). next.stages right.0 x right.2 s
             (ap (λ (c : Names). stage_in c) (run.after (offset + n + right.0) (omega arith)) ∙ ap (λ (o : ℕ). stage_in (cell_at old o)) (cell i right.0 right.1) ∙ at))
+            (slice_get-append run.settled next.settled i x got);
+        fixed = λ i x got s at. ⊎_elim
+            (λ (left : slice_get run.settled i ≡ Some x). ap stage_in (next.before (offset + i) (near i x left)) ∙ run.fixed i x left s at)
+            (λ (right : (j : ℕ) × (i ≡ length run.settled + j) × (slice_get next.settled j ≡ Some x)).
+            subst (λ (o : ℕ). stage_in (cell_at new o) ≡ Some (member_stage (Some x))) (cell i right.0 right.1)
+            (next.fixed right.0 x right.2 s (ap (λ (c : Names). stage_in c) (run.after (offset + n + right.0) (omega arith)) ∙ (ap (λ (o : ℕ). stage_in (cell_at old o)) (cell i right.0 right.1) ∙ at))))
             (slice_get-append run.settled next.settled i x got);
         before = λ q low. next.before q (omega (arith, low)) ∙ run.before q low;
         after = λ q past. next.after q (omega (arith, past)) ∙ run.after q (omega (arith, past));

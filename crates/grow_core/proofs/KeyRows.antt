@@ -1,7 +1,6 @@
 -- Each step keeps the fact that a hand has the keys of its own runs.
 use Rattle.std.proofs.Common.{◌≡◌, ℕ, ◌+◌, ◌<◌, ◌≤◌, List, ◌++◌, Option, Some, None, sym, ap, ◌∙◌, subst, ⊎_elim, arith}
 use Rattle.std.specs.Prelude.{IsSome}
-use base.Fml.{Lft}
 use mathlib.Core.Logic.{dite}
 use native.Mathlib.Decide.{ℕ_discrete}
 use mathlib.Core.List.{IsPrefix}
@@ -97,15 +96,15 @@ none_is_none None is some = absurd (cc some)
 none_is_none (Some x) is some = absurd (cc is)
 
 -- and they know its layout
-pub hand_layout : {T : Type 0} {word : WordView} {segments : TableView} {keys : KeyRow} {known : List (MemberView T)} {ended : Lft} {count : ℕ} {cells : Tie} {tags : TagRow} {vector : VectorView T} (hand : HandView)
-    → IsShared word segments keys known ended count cells tags → vector_of word segments known count ≡ vector
+pub hand_layout : {T : Type 0} {word : WordView} {segments : TableView} {keys : KeyRow} {known : List (MemberView T)} {count : ℕ} {cells : Tie} {tags : TagRow} {vector : VectorView T} (hand : HandView)
+    → IsShared word segments keys known count cells tags → vector_of word segments known ≡ vector
     → hand.of ≡ vector.word → segments.layout ≡ layout_in hand.of.mark
 hand_layout hand shared view_is ours =
     sym (ap layout_in shared.mark) ∙ (ap (λ (v : VectorView _). layout_in v.word.mark) view_is ∙ sym (ap (λ (w : WordView). layout_in w.mark) ours))
 
 -- a vector's hands are marked with the layout and the names of its segments
-pub mark_is : {T : Type 0} {word : WordView} {segments : TableView} {keys : KeyRow} {known : List (MemberView T)} {ended : Lft} {count : ℕ} {cells : Tie} {tags : TagRow} {vector : VectorView T} {claims hand : HandView}
-    → IsShared word segments keys known ended count cells tags → vector_of word segments known count ≡ vector
+pub mark_is : {T : Type 0} {word : WordView} {segments : TableView} {keys : KeyRow} {known : List (MemberView T)} {count : ℕ} {cells : Tie} {tags : TagRow} {vector : VectorView T} {claims hand : HandView}
+    → IsShared word segments keys known count cells tags → vector_of word segments known ≡ vector
     → claims ≡ hand → hand.of ≡ vector.word → mark_of segments ≡ claims.of.mark
 mark_is shared view_is hand_is ours =
     sym shared.mark ∙ (ap (λ (v : VectorView _). v.word.mark) view_is ∙ (sym (ap (λ (w : WordView). w.mark) ours) ∙ sym (ap (λ (h : HandView). h.of.mark) hand_is)))

@@ -1,5 +1,5 @@
 -- Facts that a hand learns hold of it as it was before, when it had seen less.
-use Rattle.std.proofs.Common.{◌≡◌, ℕ, ◌+◌, ◌<◌, ◌≤◌, List, [], ◌∷◌, ◌++◌, length, refl, sym, ap, ◌∙◌, subst, arith, append_assoc}
+use Rattle.std.proofs.Common.{◌≡◌, ℕ, ◌+◌, ◌<◌, ◌≤◌, List, [], ◌∷◌, ◌++◌, Result, Ok, Err, IfOk, length, refl, sym, ap, ◌∙◌, subst, arith, append_assoc}
 use Rattle.std.specs.List.{sum}
 use Rattle.std.proofs.lemmas.List.{append-nil}
 use Rattle.std.proofs.lemmas.List.Sums.{sum_by-append}
@@ -72,7 +72,7 @@ due_after vector n a b (Full size back) p still due = due
 due_after vector n a b (Moved size back) p still due = let below = size_grows a b p in
     record { further = omega (arith, below, due.further); room = due.room; others = λ whole. due.others (p.own.shares ∙ whole) }
 due_after vector n a b (Refused run made cause) p still due = tt
-due_after vector n a b (Taken place found) p still due = tt
+due_after vector n a b (Taken place found) p still due = due
 
 -- what a hand with all shares has seen is all that there is
 alone_after : (a b : HandView) → SeesMore a b → (IsWholeHand a → seen_size b ≡ seen_size a) → (place : ℕ)
@@ -94,8 +94,7 @@ leaves_after vector n a b c (Refused run made cause) p still l = let below = siz
   fewer = l.fewer;
   tokens = l.tokens;
 }
-leaves_after vector n a b c (Taken place found) p still l =
-    record { run = l.run; claimed = adds_after a b c l.run p l.claimed; all = l.all; after = l.after; before = l.before; there = l.there }
+leaves_after vector n a b c (Taken place found) p still l = l
 
 -- what a refused growth leaves of a hand, it leaves of one that had seen less, if its refusal was due then
 pub refuses_after : {T V E : Type 0} (vector : VectorView T) (n : ℕ) (given : V) (a b c : HandView) (e : GrowError T V E)
@@ -118,6 +117,12 @@ module _ {T : Type 0} (vector : VectorView T) (a b c : HandView) (more : SeesMor
     token = won.token;
     value = won.value;
   }
+
+  -- the same of all that a push may return
+  pub won_places_after : {E : Type 0} (given : T) (result : Result (PlacedView T) E) → IfOk result (WonPlace vector given b c)
+      → IfOk result (WonPlace vector given a c)
+  won_places_after given (Ok placed) won = won_place_after given placed won
+  won_places_after given (Err e) won = tt
 
   -- so of a growth
   pub won_run_after : (given : List T) (grown : GrownView T) → WonRun vector given b c grown → WonRun vector given a c grown

@@ -9,11 +9,11 @@ pub mod TiedCells
 pub mod Wins
 pub mod Places
 pub mod Entered
+pub mod TiedSegments
 pub mod OpenedValues
 pub mod Filling
 pub mod KnownPlaces
 pub mod Stretches
-pub mod BegunPlaces
 pub mod KeyRows
 pub mod FirstPlaces
 pub mod Cells
@@ -23,7 +23,7 @@ pub mod LastKeys
 pub mod StillOpen
 pub mod Fixing
 pub mod ListLength
-pub mod Unties
+pub mod Closed
 pub mod FoundFilled
 pub mod Stopped
 pub mod Made
@@ -33,5 +33,5 @@ pub mod PopSegment
 pub mod Counted
 pub mod Copying
 pub mod Breaking
-pub mod PlainSegments
+pub mod Staged
 pub mod Loops

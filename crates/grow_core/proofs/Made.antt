@@ -50,7 +50,7 @@ module _ {F T E : Type 0} (step : F → ℕ → Result T E → F → Type 0) (ma
   left_by_stop vector run made why end (Moved size back) s r at = absurd s
   left_by_stop vector run made why end (Refused of grown cause) s r at =
       subst (λ vs. StopsAt step maker vs cause end) (sym r.0) (subst (λ w. StopsAt step maker made w end) (sym r.1) at)
-  left_by_stop vector run made why end (Taken place found) s r at = tt
+  left_by_stop vector run made why end (Taken place found) s r at = absurd s
 
   -- a growth that claims nothing asks its maker for nothing
   pub left_by_none : {V : Type 0} (e : GrowError T V E) → ClaimsNothing e → LeavesMaker step maker maker e
@@ -58,7 +58,7 @@ module _ {F T E : Type 0} (step : F → ℕ → Result T E → F → Type 0) (ma
   left_by_none (Full size back) none = refl
   left_by_none (Moved size back) none = refl
   left_by_none (Refused run made cause) none = absurd none
-  left_by_none (Taken place found) none = tt
+  left_by_none (Taken place found) none = absurd none
 
   -- the cause of a refused construction is the last result of the maker
   pub cause_of_left : {X V : Type 0} (end : F) (result : Result X (GrowError T V E))
@@ -68,7 +68,7 @@ module _ {F T E : Type 0} (step : F → ℕ → Result T E → F → Type 0) (ma
   cause_of_left end (Err (Full size back)) left = tt
   cause_of_left end (Err (Moved size back)) left = tt
   cause_of_left end (Err (Refused run made cause)) left = (left.0, left.1, (end, left.2))
-  cause_of_left end (Err (Taken place found)) left = tt
+  cause_of_left end (Err (Taken place found)) left = absurd left
 
   -- a run that was claimed and then filled with what the maker made is a growth that won
   pub won_made : {X : Type 0} (vector : VectorView T) (wanted : ℕ) (old new : HandView) (claimed : Run) (result : Result (GrownView T) X) (end : F)

@@ -28,13 +28,6 @@ starts_le f (suc j) (suc k) le = segment_end-le f j k (omega arith)
 pub segment_below : (f segment place count : ℕ) → HasPlace f segment place → place < segment_start f count → segment < count
 segment_below f segment place count has below = ⊎_elim (λ lt. lt) (λ ge. let le = starts_le f count segment ge in let from = has.from in absurd (omega arith)) (cases_lt segment count)
 
--- a segment that begins before the end of the first `count` segments ends there or before
-pub opened_ends : (f k count laid : ℕ) → laid ≡ segment_start f count → segment_start f k < laid → segment_end f k ≤ laid
-opened_ends f k zero laid is low = absurd (omega (arith, is, low))
-opened_ends f k (suc c) laid is low =
-    ⊎_elim (λ lt. let le = segment_end-le f k c (omega (arith, lt)) in omega (arith, le, is))
-    (λ ge. let le = starts_le f (suc c) k ge in absurd (omega (arith, le, low, is))) (cases_lt k (suc c))
-
 -- the value at a place, of what is known there
 pub value_at : {T : Type 0} (known : List (MemberView T)) (i : ℕ) (m : MemberView T) → slice_get known i ≡ Some m → slice_get (values_in known) i ≡ Some m.value
 value_at [] i m is = absurd (let z = is in cc)

@@ -12,13 +12,13 @@ use Rattle.seg_core.specs.Segment.{segment_start, segment_end, segment_count}
 use Rattle.seg_core.specs.Laws.{OnePlace}
 use Rattle.seg_core.proofs.Doubling.{one_segment}
 use Rattle.cell_core.specs.Block.{BlockView, IsMemberAt, KeepsOtherCells, block_len, cell_at}
-use Rattle.cell_core.specs.Fixed.{HasValueByStage}
+use Rattle.cell_core.specs.Fixed.{HasValueByStage, stage_in}
 use Rattle.cell_core.specs.Slot.{Names}
 use Rattle.cell_core.specs.Member.{MemberView, HasNames}
 use Rattle.table_core.specs.Table.{KeyView, IsBlockOf}
 use Rattle.grow_core.specs.Keys.{KeyRow, IsKeyAt, AreKeys, key_at, mark_of, layout_in, names_in}
 use Rattle.grow_core.specs.Token.{PlacedView, place_in}
-use Rattle.grow_core.specs.Parts.{AreLong, AreMembers, AreWhole, HasFirstKeys, AreBrokenIn, IsBrokenIn, values_in}
+use Rattle.grow_core.specs.Parts.{AreLong, AreMembers, AreWhole, HasFirstKeys, AreBrokenIn, IsBrokenIn, RestagesCell, member_stage, values_in}
 use Rattle.grow_core.specs.Vector.{VectorView, IsPlacedOf, layout_of}
 use Rattle.grow_core.specs.Closing.{AreSettled, IsClosing, IsKept, IsKeptOf, KeepsKnown, KeepsValuesBelow, untied}
 use Rattle.grow_core.proofs.Places.{untied_at, value_at, pushed_there, pushed_elsewhere, within_length, kept_at, broken_more, broken_append, segment_below}
@@ -130,9 +130,9 @@ module _ {T : Type 0} (old new : BlockView) (offset : ℕ) (opened : List (Membe
   -- the next cell is settled too
   pub settled_more : (newer : BlockView) (known : Option (MemberView T)) (m : MemberView T) (row'' : List (MemberView T)) → row'' ≡ row' ++ m ∷ []
       → MatchOption known (length opened ≤ place + n) (λ k. slice_get opened (place + n) ≡ Some k) → IfSome known (λ k. KeepsKnown k.value m.value)
-      → HasValueByStage (cell_at new (offset + n)) m.value → IsMemberAt newer (offset + n) m → m.name ≡ (cell_at new (offset + n)).value_name → IsBrokenIn epoch m → block_len newer ≡ block_len new
+      → HasValueByStage (cell_at new (offset + n)) m.value → RestagesCell new newer (offset + n) (member_stage (Some m)) → IsMemberAt newer (offset + n) m → m.name ≡ (cell_at new (offset + n)).value_name → IsBrokenIn epoch m → block_len newer ≡ block_len new
       → KeepsOtherCells new newer (offset + n) → AreSettled old newer offset opened place row row'' epoch (n + 1)
-  settled_more newer known m row'' pushed had keeps by is named broken len others =
+  settled_more newer known m row'' pushed had keeps by stages is named broken len others =
       let all : length run.settled ≡ n = run.all in
       record {
         settled = run.settled ++ m ∷ [];
@@ -153,6 +153,10 @@ module _ {T : Type 0} (old new : BlockView) (offset : ℕ) (opened : List (Membe
             (λ same. subst (λ (u : Names × MemberView T). HasValueByStage u.0 u.1.value)
             (λ j. ((run.after (offset + n) (omega arith) ∙ ap (λ (k : ℕ). cell_at old (offset + k)) (sym same)) j, last m x i same got j)) by)
             (λ other. run.stages i x (earlier m x i other got));
+        fixed = λ i x got. dite (ℕ_discrete i n)
+            (λ same. subst (λ (u : ℕ × MemberView T). RestagesCell old newer (offset + u.0) (member_stage (Some u.1))) (λ j. (sym same j, last m x i same got j))
+            (λ s at. stages s (ap stage_in (run.after (offset + n) (omega arith)) ∙ at)))
+            (λ other s at. ap stage_in (others (offset + i) (λ e. other (omega (arith, e)))) ∙ run.fixed i x (earlier m x i other got) s at);
         before = λ q low. others q (λ e. omega (arith, e, low)) ∙ run.before q low;
         after = λ q past. others q (λ e. omega (arith, e, past)) ∙ run.after q (omega (arith, past));
       }
@@ -180,13 +184,13 @@ module _ {T : Type 0} (f : ℕ) (mark : List ℕ) (before : KeyRow) (names : Lis
         let was_long = kept.long segment old small has in
         untied_at old.block key.block (offset + i) m (omega (arith, long, was_long)) (same_cell_still i) was
 
-    -- the places of the next n cells are members; before these were settled their ties were fixed, and they are untied now
-    pub kept_settled : (names' : List ℕ) (key' : KeyView) (fixed settled block : BlockView) (opened known' : List (MemberView T)) (epoch : Lft) (n : ℕ) → length row ≡ 40
+    -- the places of the next n cells are members; before these were settled their ties were fixed
+    pub kept_settled : (names' : List ℕ) (key' : KeyView) (fixed settled : BlockView) (opened known' : List (MemberView T)) (epoch : Lft) (n : ℕ) → length row ≡ 40
         → place_in f segment offset + n ≤ segment_end f segment → ((j : ℕ) → j ≢ segment → slice_index names' j ≡ slice_index names j)
         → ((q : ℕ) → untied (cell_at fixed q) ≡ untied (cell_at key.block q)) → AreSettled fixed settled offset opened (length known) known known' epoch n
-        → ((q : ℕ) → offset + n ≤ q → untied (cell_at block q) ≡ untied (cell_at settled q)) → key'.block ≡ block
+        → key'.block ≡ settled
         → IsKeptOf f mark before names' (slice_set row segment (Some key')) known' count
-    kept_settled names' key' fixed settled block opened known' epoch n rows inside others fixes run unties is_block =
+    kept_settled names' key' fixed settled opened known' epoch n rows inside others fixes run is_block =
         let row' : KeyRow = slice_set row segment (Some key') in
         let is_there : key_at row' segment ≡ Some key' = get_or-set_same row segment (Some key') None (omega (arith, small, rows)) in
         let away : (s : ℕ) → s ≢ segment → key_at row' s ≡ key_at row s = (λ s other. get_or-set_other row segment s (Some key') None other) in
@@ -213,7 +217,7 @@ module _ {T : Type 0} (f : ℕ) (mark : List ℕ) (before : KeyRow) (names : Lis
               let old_is : Some a ≡ Some old = sym at ∙ ap (key_at before) same ∙ has in let a_is : a ≡ old = (let z = old_is in cc) in
               let starts = ap (segment_start f) same in
               let far : offset + n ≤ o = omega (arith, starts, past, more, here) in
-              ap (λ (u : KeyView). untied (cell_at u.block o)) b_is ∙ ap (λ (u : BlockView). untied (cell_at u o)) is_block ∙ unties o far ∙ ap untied (run.after o far) ∙ fixes o
+              ap (λ (u : KeyView). untied (cell_at u.block o)) b_is ∙ ap (λ (u : BlockView). untied (cell_at u o)) is_block ∙ ap untied (run.after o far) ∙ fixes o
               ∙ kept.later segment o old key small has has' (omega (arith, starts, past, more)) ∙ ap (λ (u : KeyView). untied (cell_at u.block o)) (sym a_is))
               (λ other. kept.later s o a b low at (sym (away s other) ∙ at') (omega (arith, past, more)));
           after = λ s low ge. others s (λ same. omega (arith, same, ge, first)) ∙ kept.after s low ge;

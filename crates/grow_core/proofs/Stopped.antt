@@ -48,20 +48,7 @@ module _ {T : Type 0} (vector : VectorView T) (wanted : ℕ) (old new : HandView
         };
         back = tt;
       }
-  refused_of_claimed given (Taken place found) s =
-      let some : 0 < claimed.n = omega (arith, s.0, s.1) in record {
-        some_places = omega (arith, some, it.n);
-        due = tt;
-        left = record {
-          run = claimed;
-          claimed = it.grows.claimed some;
-          all = it.n;
-          after = s.0;
-          before = omega (arith, s.1, it.n);
-          there = s.2;
-        };
-        back = tt;
-      }
+  refused_of_claimed given (Taken place found) s = absurd s
 
 -- a run up to a size that was claimed and could not be filled is a growth up to that size that was refused
 pub refused_up_to : {T V E : Type 0} (vector : VectorView T) (to : ℕ) (old new : HandView) (claimed : Run) (e : GrowError T V E)
@@ -86,18 +73,4 @@ refused_up_to {T} {V} {E} vector to old new claimed (Refused run made cause) it 
         },
       );
     }
-refused_up_to vector to old new claimed (Taken place found) it s = record {
-  due = tt;
-  left = record {
-    n = claimed.n;
-    lost = record {
-      run = claimed;
-      claimed = it.2.grows.claimed it.1;
-      all = refl;
-      after = s.0;
-      before = s.1;
-      there = s.2;
-    };
-    ends = it.0;
-  };
-}
+refused_up_to vector to old new claimed (Taken place found) it s = absurd s

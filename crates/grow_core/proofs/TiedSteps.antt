@@ -1,5 +1,5 @@
 -- What a hand gains by a step on a tied cell, as the events of what the step returned.
-use Rattle.std.proofs.Common.{◌≡◌, ◌≢◌, ℕ, zero, suc, ◌+◌, ◌<◌, List, [], ◌∷◌, ◌++◌, refl, sym, ap, ◌∙◌, subst, inl, inr, ⊎_elim, arith}
+use Rattle.std.proofs.Common.{◌≡◌, ℕ, zero, suc, ◌+◌, ◌<◌, ◌≤◌, List, [], ◌∷◌, ◌++◌, refl, sym, ap, ◌∙◌, subst, inl, inr, ⊎_elim, arith}
 use Rattle.std.specs.Prelude.{Option, Some, None, Result, Ok, Err, IfOk, IfErr, length, replicate, slice_index_or}
 use Rattle.std.proofs.lemmas.List.{length-replicate}
 use Rattle.std.specs.List.{Contains}
@@ -12,7 +12,9 @@ use Rattle.cell_core.specs.declared.block.shown.Look.{Look}
 use Rattle.cell_core.specs.declared.block.shown.Look.TheVariants as look
 use Rattle.cell_core.specs.declared.block.shown.Found.{Found}
 use Rattle.cell_core.specs.declared.block.shown.Found.TheVariants as found
+use Rattle.cell_core.specs.Block.{IsBrokenState}
 use Rattle.cell_core.specs.Shown.{IsFoundOf, IsLookOf}
+use Rattle.cell_core.specs.Slot.{filled_state}
 use Rattle.claim_core.specs.declared.role.RowAt.{RowAt}
 use Rattle.claim_core.specs.declared.seat_view.SeatView.{SeatView}
 use Rattle.claim_core.specs.Lengths.{InRun}
@@ -25,7 +27,6 @@ use Rattle.claim_core.specs.Plays.{cell_stage, look_gains, begin_gains, fill_gai
 use Rattle.claim_core.specs.SeatSteps.{look_event, try_event}
 use Rattle.grow_core.specs.Logs.{fill_steps, step_of}
 use Rattle.grow_core.specs.Shown.{found_steps, look_steps, try_steps}
-use Rattle.grow_core.specs.Vector.{VectorView}
 use Rattle.grow_core.specs.Steps.{KeepsHand, WorksIn, AddsAlong, AddsAt, LooksAt}
 use Rattle.grow_core.proofs.Logs.{log_goes_on}
 use Rattle.grow_core.proofs.Adds.{one_step, steps_go_on}
@@ -91,12 +92,13 @@ looked place v (Some m) shown n old new has is gains =
 -- ---- A hand that tries to mend a place, and fills it then
 
 -- the event of a try that found the place broken
-tried_broken : (limit place : ℕ) (s s' : Stage) → Shows s 5 → s' ≡ Mending → try_event limit place (cell_stage s) (cell_stage s') ≡ mend_event limit place
-tried_broken limit place Idle s' shows is = absurd (omega (arith, shows))
-tried_broken limit place Begun s' shows is = absurd (omega (arith, shows))
-tried_broken limit place Mending s' shows is = absurd (omega (arith, shows))
-tried_broken limit place Filled s' shows is = absurd (omega (arith, shows))
-tried_broken limit place Broken s' shows is = ap (λ (x : Stage). try_event limit place (cell_stage Broken) (cell_stage x)) is
+tried_broken : (limit place n : ℕ) (s s' : Stage) → 3 < n → Shows s n → s' ≡ Mending
+    → try_event limit place (cell_stage s) (cell_stage s') ≡ mend_event limit place
+tried_broken limit place n Idle s' past shows is = absurd (omega (arith, past, shows))
+tried_broken limit place n Begun s' past shows is = absurd (omega (arith, past, shows))
+tried_broken limit place n Mending s' past shows is = absurd (omega (arith, past, shows))
+tried_broken limit place n Filled s' past shows is = absurd (omega (arith, past, shows))
+tried_broken limit place n Broken s' past shows is = ap (λ (x : Stage). try_event limit place (cell_stage Broken) (cell_stage x)) is
 
 -- the event of one that did not is that of what it found
 found_by_stage : {T : Type 0} (limit place : ℕ) (s : Stage) (found : Found T) (n : ℕ) → Shows s n → IsFoundOf n found
@@ -130,13 +132,14 @@ found_tried P limit place (found.Broken spoilt) = refl
 
 -- it has tried
 pub tried : {P T : Type 0} (place : ℕ) (v : SeatView) (made : Option Made) (taken : Result P (Found T)) (old new : HandView)
-    → IfOk taken (λ pen. HasMade mends 5 made) → IfErr taken (λ found. (n : ℕ) × HasMade mends n made × (n ≢ 5) × IsFoundOf n found)
+    → IfOk taken (λ pen. (n : ℕ) × IsBrokenState n × HasMade mends n made)
+    → IfErr taken (λ found. (n : ℕ) × HasMade mends n made × (n ≤ filled_state) × IsFoundOf n found)
     → GainsBy (mend_gains place v) made old new → LooksAt old new (try_steps v.limit place taken)
 tried place v None (Ok pen) old new has lost gains = absurd gains
 tried place v None (Err found) old new has lost gains = absurd gains
 tried place v (Some m) (Ok pen) old new has lost gains =
     looks_with gains.0 (try_event v.limit place (cell_stage m.0) (cell_stage m.1)) old new (step_of (mend_event v.limit place)) gains.1 gains.2
-    (ap (λ (e : Event × Reply). step_of e) (tried_broken v.limit place m.0 m.1 has.0.0 (has.0.1 refl)))
+    (ap (λ (e : Event × Reply). step_of e) (tried_broken v.limit place has.0 m.0 m.1 (omega (arith, has.1)) has.2.0.0 (has.2.0.1 (omega (arith, has.1)))))
 tried {P} place v (Some m) (Err found) old new has lost gains =
     looks_with gains.0 (try_event v.limit place (cell_stage m.0) (cell_stage m.1)) old new (try_steps {P = P} v.limit place (Err found)) gains.1 gains.2
     (ap (λ (s : Stage). step_of (try_event v.limit place (cell_stage m.0) (cell_stage s))) (lost.1.0.2 lost.2)
@@ -193,19 +196,19 @@ module _ (place : ℕ) where
       → InRun v.base v.seen index place → InRun hand.of.base hand.seen index place
   seat_sees floor table v hand is index it = subst (λ (h : HandView). InRun h.of.base h.seen index place) is it
 
-  module _ (law : RunsAreApart) {T : Type 0} (vector : VectorView T) (floor : ℕ) (table : TableId) (v : SeatView) (old new : HandView)
+  module _ (law : RunsAreApart) (floor : ℕ) (table : TableId) (v : SeatView) (old new : HandView)
       (is : seat_hand floor table v ≡ old) where
     -- a step on a begun place is of the actor whose index the place's run has
     step_at : (event : ℕ → Event × Reply) → (told : (k : ℕ) × InRun v.base v.seen k place) → Gains (an_event (event told.0)) old new
-        → AddsAt vector old new place event
-    step_at event told g index owns laid =
+        → AddsAt old new place event
+    step_at event told g index owns =
         let same : told.0 ≡ index = law old.of.base old.seen told.0 index place (seat_sees floor table v old is told.0 told.1) owns.in_run in
         let here : Gains (an_event (event index)) old new = subst (λ (k : ℕ). Gains (an_event (event k)) old new) same g in
         one_step old.log new.log (event index ∷ []) here.log
 
     -- it is filled
     pub filled_at : GainsBy (fill_gains place v) (Some (Begun, Filled)) old new
-        → WorksIn old new place 1 × AddsAt vector old new place (λ index. fill_event index place)
+        → WorksIn old new place 1 × AddsAt old new place (λ index. fill_event index place)
     filled_at gains =
         let told = gains.1 in
         let g : Gains (an_event (fill_event told.0 place)) old new = subst (λ (gain : Gain). Gains gain old new) told.2 gains.2 in
@@ -213,7 +216,7 @@ module _ (place : ℕ) where
 
     -- or broken
     pub broken_at : GainsBy (spoil_gains place v) (Some (Begun, Broken)) old new
-        → WorksIn old new place 1 × AddsAt vector old new place (λ index. break_event index place)
+        → WorksIn old new place 1 × AddsAt old new place (λ index. break_event index place)
     broken_at gains =
         let told = gains.1 in
         let g : Gains (an_event (break_event told.0 place)) old new = subst (λ (gain : Gain). Gains gain old new) told.2 gains.2 in
@@ -244,10 +247,10 @@ module _ (place n : ℕ) where
       }
 
   -- and they are filled, in order, by the actor whose index their run has
-  pub filled_along : BegunRunsAreFilled → {T : Type 0} (vector : VectorView T) (floor : ℕ) (table : TableId) (v : SeatView) (old new : HandView)
+  pub filled_along : BegunRunsAreFilled → (floor : ℕ) (table : TableId) (v : SeatView) (old new : HandView)
       → seat_hand floor table v ≡ old → GainsAlong (fill_run_gains place v) (Some (replicate n (Begun, Filled))) old new
-      → WorksIn old new place n × AddsAlong vector old new place n (λ index. fill_steps index place n)
-  filled_along law vector floor table v old new is gains =
+      → WorksIn old new place n × AddsAlong old new place n (λ index. fill_steps index place n)
+  filled_along law floor table v old new is gains =
       let gain : ChainGain = gains.0 in let told = gains.1 in let g : GainsChain gain old new = gains.2 in (
         record {
           keeps = chain_keeps gain old new g;
@@ -255,7 +258,7 @@ module _ (place n : ℕ) where
           begun = λ q it. inr (subst (λ (l : List ℕ). Contains (l ++ old.begun) q) told.0 (subst (λ (l : List ℕ). Contains l q) g.begun it));
           more = steps_go_on old.log new.log gain.steps g.log;
         },
-        λ index owns laid.
+        λ index owns.
             let states : List Made = replicate n (Begun, Filled) in let long : length states ≡ n = length-replicate {A = Made} n (Begun, Filled) in
             let along : (i : ℕ) → i < length states → InRun v.base v.seen index (place + i) =
             (λ i less. let near : i < n = omega (arith, less, long) in

@@ -18,10 +18,10 @@ use Rattle.seg_core.specs.Segment.{HasPlace}
 use Rattle.grow_core.specs.Keys.{KeyRow, AreKeys, IsKeyed, layout_in}
 use Rattle.grow_core.specs.Ties.{KnowsRow, KnowsRows, row_at}
 use Rattle.grow_core.specs.Logs.{step_of, fill_steps, break_steps, stop_steps}
-use Rattle.grow_core.specs.Vector.{VectorView, SeesMore}
+use Rattle.grow_core.specs.Vector.{SeesMore}
 use Rattle.grow_core.specs.Steps.{KeepsHand, FindsMore, WorksIn, AddsAt, AddsAlong, AddsOn, AreFresh, OwnsRunAt, OwnsPlaceAt}
 use Rattle.grow_core.proofs.Logs.{nothing_after}
-use Rattle.grow_core.proofs.Adds.{prefix_same, steps_after, steps_join, fills_join, breaks_join}
+use Rattle.grow_core.proofs.Adds.{prefix_same, steps_after, steps_join, fills_join}
 
 keeps_both : (a b c : HandView) → KeepsHand a b → KeepsHand b c → KeepsHand a c
 keeps_both a b c p q = record {
@@ -36,15 +36,6 @@ more_of_keeps a b keeps = record { seen = ([], append-nil a.seen ∙ sym keeps.s
 pub size_of_keeps : (a b : HandView) → KeepsHand a b → seen_size b ≡ seen_size a
 size_of_keeps a b keeps =
     ap (λ (w : WordView). runs_end w.base b.seen) keeps.own.of ∙ ap (λ (l : List ℕ). runs_end a.of.base l) keeps.seen
-
--- nothing is done
-pub works_idle : (a : HandView) (from n : ℕ) → WorksIn a a from n
-works_idle a from n = record {
-  keeps = record { own = record { of = refl; mine = refl; shares = refl }; seen = refl };
-  rows = refl;
-  begun = λ place it. inr it;
-  more = prefix_same a.log;
-}
 
 module _ (a b : HandView) where
   -- the same
@@ -209,71 +200,58 @@ claimed_owned law hand index run owns place is_place =
 
 -- ---- What is added on the places of a run of the hand's, one stretch after another
 
-module _ {T : Type 0} (vector : VectorView T) (run : Run) where
+module _ (run : Run) where
   -- nothing is added at first
-  pub adds_none : (a b : HandView) (from : ℕ) (steps : ℕ → List Log) → a ≡ b → ((index : ℕ) → steps index ≡ []) → AddsOn vector a b run from steps
-  adds_none a b from steps same empty index owns laid =
+  pub adds_none : (a b : HandView) (steps : ℕ → List Log) → a ≡ b → ((index : ℕ) → steps index ≡ []) → AddsOn a b run steps
+  adds_none a b steps same empty index owns =
       subst (λ (s : List Log). Adds a.log s b.log) (sym (empty index))
       (subst (λ (h : HandView). IsPrefix a.log h.log) same (prefix_same a.log))
 
   -- places next to each other in the run are of the actor whose index the run has
   pub on_of_along : SeenRunsHavePlaces → (a b : HandView) (from n : ℕ) (steps : ℕ → List Log) → run.from ≤ from → from + n ≤ run.from + run.n
-      → AddsAlong vector a b from n steps → AddsOn vector a b run from steps
-  on_of_along law a b from n steps above below along index owns laid =
-      along index
-      (λ i less. claimed_owned law a index run owns (from + i) (omega (arith, above), omega (arith, below, less)))
-      laid
+      → AddsAlong a b from n steps → AddsOn a b run steps
+  on_of_along law a b from n steps above below along index owns =
+      along index (λ i less. claimed_owned law a index run owns (from + i) (omega (arith, above), omega (arith, below, less)))
 
   -- so is one place
-  pub on_of_at : SeenRunsHavePlaces → (a b : HandView) (place : ℕ) (event : ℕ → Event × Reply) → IsPlaceOf run place → AddsAt vector a b place event
-      → AddsOn vector a b run place (λ index. step_of (event index))
-  on_of_at law a b place event is_place at index owns laid = at index (claimed_owned law a index run owns place is_place) laid
+  pub on_of_at : SeenRunsHavePlaces → (a b : HandView) (place : ℕ) (event : ℕ → Event × Reply) → IsPlaceOf run place → AddsAt a b place event
+      → AddsOn a b run (λ index. step_of (event index))
+  on_of_at law a b place event is_place at index owns = at index (claimed_owned law a index run owns place is_place)
 
   -- steps on places, and then on those after them
-  pub adds_then : (a b c : HandView) (from next : ℕ) (xs ys all : ℕ → List Log) → from ≤ next
-      → ((index : ℕ) → all index ≡ xs index ++ ys index) → KeepsHand a b → AddsOn vector a b run from xs → AddsOn vector b c run next ys
-      → AddsOn vector a c run from all
-  adds_then a b c from next xs ys all after whole keeps first rest index owns laid =
+  pub adds_then : (a b c : HandView) (xs ys all : ℕ → List Log) → ((index : ℕ) → all index ≡ xs index ++ ys index) → KeepsHand a b
+      → AddsOn a b run xs → AddsOn b c run ys → AddsOn a c run all
+  adds_then a b c xs ys all whole keeps first rest index owns =
       subst (λ (s : List Log). Adds a.log s c.log) (sym (whole index))
-      (steps_join a.log b.log c.log (xs index) (ys index) (first index owns laid) (rest index (run_still a b keeps index run owns) (omega (arith, after, laid))))
+      (steps_join a.log b.log c.log (xs index) (ys index) (first index owns) (rest index (run_still a b keeps index run owns)))
 
 -- places of a run that a hand begins first and then publishes
-pub along_after : {T : Type 0} (vector : VectorView T) (a b c : HandView) (from n : ℕ) (steps : ℕ → List Log) → KeepsHand a b
-    → IsPrefix a.log b.log → AddsAlong vector b c from n steps → AddsAlong vector a c from n steps
-along_after vector a b c from n steps keeps more along index owns laid =
-    steps_after a.log b.log c.log (steps index) more (along index (λ i less. owns_still a b keeps index (from + i) (owns i less)) laid)
+pub along_after : (a b c : HandView) (from n : ℕ) (steps : ℕ → List Log) → KeepsHand a b
+    → IsPrefix a.log b.log → AddsAlong b c from n steps → AddsAlong a c from n steps
+along_after a b c from n steps keeps more along index owns =
+    steps_after a.log b.log c.log (steps index) more (along index (λ i less. owns_still a b keeps index (from + i) (owns i less)))
 
--- ---- The same of fills and breaks alone
+-- ---- The same of fills alone
 
-module _ {T : Type 0} (vector : VectorView T) (run : Run) (law : SeenRunsHavePlaces) (a b c : HandView) (keeps : KeepsHand a b) (from m next n all : ℕ)
+module _ (run : Run) (law : SeenRunsHavePlaces) (a b c : HandView) (keeps : KeepsHand a b) (from m next n all : ℕ)
     (at : from + m ≡ next) (sum : m + n ≡ all) (above : run.from ≤ from) (below : next + n ≤ run.from + run.n) where
   -- a stretch more is filled
-  pub fills_on : AddsOn vector a b run from (λ index. fill_steps index from m) → AddsAlong vector b c next n (λ index. fill_steps index next n)
-      → AddsOn vector a c run from (λ index. fill_steps index from all)
+  pub fills_on : AddsOn a b run (λ index. fill_steps index from m) → AddsAlong b c next n (λ index. fill_steps index next n)
+      → AddsOn a c run (λ index. fill_steps index from all)
   fills_on first along =
-      adds_then vector run a b c from next (λ index. fill_steps index from m) (λ index. fill_steps index next n) (λ index. fill_steps index from all)
-      (omega (arith, at)) (λ index. ap (λ (k : ℕ). fill_steps index from k) (sym sum) ∙ fills_join index from m n next at) keeps first
-      (on_of_along vector run law b c next n (λ index. fill_steps index next n) (omega (arith, at, above)) below along)
-
-  -- or broken
-  pub breaks_on : AddsOn vector a b run from (λ index. break_steps index from m) → AddsAlong vector b c next n (λ index. break_steps index next n)
-      → AddsOn vector a c run from (λ index. break_steps index from all)
-  breaks_on first along =
-      adds_then vector run a b c from next (λ index. break_steps index from m) (λ index. break_steps index next n) (λ index. break_steps index from all)
-      (omega (arith, at)) (λ index. ap (λ (k : ℕ). break_steps index from k) (sym sum) ∙ breaks_join index from m n next at) keeps first
-      (on_of_along vector run law b c next n (λ index. break_steps index next n) (omega (arith, at, above)) below along)
+      adds_then run a b c (λ index. fill_steps index from m) (λ index. fill_steps index next n) (λ index. fill_steps index from all)
+      (λ index. ap (λ (k : ℕ). fill_steps index from k) (sym sum) ∙ fills_join index from m n next at) keeps first
+      (on_of_along run law b c next n (λ index. fill_steps index next n) (omega (arith, at, above)) below along)
 
 -- the first places of a run are filled, and then the others are broken
-pub stops_on : {T : Type 0} (vector : VectorView T) (run : Run) (a b c : HandView) (made : ℕ) → made ≤ run.n → KeepsHand a b
-    → AddsOn vector a b run run.from (λ index. fill_steps index run.from made)
-    → AddsOn vector b c run (run.from + made) (λ index. break_steps index (run.from + made) (run.n - made))
-    → AddsOn vector a c run run.from (λ index. stop_steps index run made)
-stops_on vector run a b c made few keeps first rest =
-    adds_then vector run a b c run.from (run.from + made) (λ index. fill_steps index run.from made)
-    (λ index. break_steps index (run.from + made) (run.n - made)) (λ index. stop_steps index run made) (omega arith) (λ index. refl) keeps first rest
+pub stops_on : (run : Run) (a b c : HandView) (made : ℕ) → KeepsHand a b → AddsOn a b run (λ index. fill_steps index run.from made)
+    → AddsOn b c run (λ index. break_steps index (run.from + made) (run.n - made)) → AddsOn a c run (λ index. stop_steps index run made)
+stops_on run a b c made keeps first rest =
+    adds_then run a b c (λ index. fill_steps index run.from made) (λ index. break_steps index (run.from + made) (run.n - made))
+    (λ index. stop_steps index run made) (λ index. refl) keeps first rest
 
 -- a place that a hand begins first and then fills or breaks
-pub at_after : {T : Type 0} (vector : VectorView T) (a b c : HandView) (place : ℕ) (event : ℕ → Event × Reply) → WorksIn a b place 1
-    → AddsAt vector b c place event → AddsAt vector a c place event
-at_after vector a b c place event works at index owns laid =
-    steps_after a.log b.log c.log (step_of (event index)) works.more (at index (owns_still a b works.keeps index place owns) laid)
+pub at_after : (a b c : HandView) (place : ℕ) (event : ℕ → Event × Reply) → WorksIn a b place 1
+    → AddsAt b c place event → AddsAt a c place event
+at_after a b c place event works at index owns =
+    steps_after a.log b.log c.log (step_of (event index)) works.more (at index (owns_still a b works.keeps index place owns))

@@ -1,7 +1,6 @@
 -- What a growth up to a size leaves, won or refused.
 use Rattle.std.specs.Prelude.{◌≡◌, ℕ, ◌+◌, ◌<◌, ◌≤◌, Result}
 use Rattle.claim_core.specs.Hand.{HandView, SeesSize, seen_size}
-use Rattle.grow_core.specs.declared.token.Found.{Found}
 use Rattle.grow_core.specs.declared.errors.GrowError.{GrowError}
 use Rattle.grow_core.specs.declared.errors.GrowError.TheVariants.{NoMemory, Full, Moved, Refused, Taken}
 use Rattle.grow_core.specs.declared.grow_to_at_least.AtLeast.{AtLeast}
@@ -9,7 +8,7 @@ use Rattle.grow_core.specs.declared.grow_to_at_least.AtLeast.TheVariants.{Ran, E
 use Rattle.grow_core.specs.declared.grow_to_at_least.Reached.{Reached}
 use Rattle.grow_core.specs.declared.grow_to_at_least.Reached.TheVariants as reached
 use Rattle.grow_core.specs.Vector.{VectorView, SeesMore, limit_of}
-use Rattle.grow_core.specs.Growth.{KeepsMade, LosesPlace}
+use Rattle.grow_core.specs.Growth.{KeepsMade}
 use Rattle.grow_core.specs.Grown.{values_of}
 use Rattle.grow_core.specs.Steps.{IsNewRun}
 use Rattle.grow_core.specs.Making.{IsClaimed, Makes, WonMade}
@@ -58,14 +57,7 @@ IsDueUpTo vector to old (NoMemory back) = (seen_size old < to) × (to ≤ limit_
 IsDueUpTo vector to old (Full size back) = limit_of vector < to
 IsDueUpTo vector to old (Moved size back) = ⊥
 IsDueUpTo vector to old (Refused run made cause) = Unit {0}
-IsDueUpTo vector to old (Taken place found) = Unit {0}
-
--- the hand owns one more run, which ends at the size asked for, and one of its places was taken
-pub record LosesPlaceBelow {T : Type 0} (vector : VectorView T) (to : ℕ) (old new : HandView) (place : ℕ)
-    (found : Found T) : Type 0 where
-  pub n : ℕ
-  pub lost : LosesPlace vector n old new place found
-  pub ends : lost.run.from + n ≡ to
+IsDueUpTo vector to old (Taken place found) = ⊥
 
 -- what each refusal leaves of the hand: a run that was claimed ends at the size asked for
 abbrev pub LeavesUpTo : {T V E : Type 0} → VectorView T → ℕ → HandView → HandView → GrowError T V E → Type 0
@@ -74,7 +66,7 @@ LeavesUpTo vector to old new (Full size back) = SeesSize old new size
 LeavesUpTo vector to old new (Moved size back) = ⊥
 LeavesUpTo vector to old new (Refused run made cause) =
     (run.from + run.n ≡ to) × KeepsMade vector run.n old new run made
-LeavesUpTo vector to old new (Taken place found) = LosesPlaceBelow vector to old new place found
+LeavesUpTo vector to old new (Taken place found) = ⊥
 
 -- a growth up to a size was refused: when this refusal comes, and what it leaves of the hand
 pub record RefusesAtLeast {T V E : Type 0} (vector : VectorView T) (to : ℕ) (old new : HandView)

@@ -12,19 +12,19 @@ use Rattle.claim_core.specs.Word.{WordView}
 use Rattle.claim_core.specs.Hand.{HandView, hand_coded, IsWholeHand, seen_size}
 use Rattle.claim_core.specs.Plays.{ShowsAt, cell_stage}
 use Rattle.cell_core.specs.Fixed.{HasValueByStage, stage_in}
-use Rattle.cell_core.specs.Slot.{Names, ArePlain}
+use Rattle.cell_core.specs.Slot.{Names}
 use Rattle.cell_core.specs.Mould.{mould_of, row_mould}
 use base.Fml.{Lft}
 use base.Stored.{Coded, coded×, coded_ℕ, coded_list, coded_via}
-use Rattle.seg_core.specs.Segment.{segment_start, segment_end, segment_count, most_segments}
+use Rattle.seg_core.specs.Segment.{segment_start, segment_end, most_segments}
 use Rattle.cell_core.specs.Block.{BlockView, IsMemberAt, block_len, cell_at}
 use Rattle.cell_core.specs.Member.{MemberView}
-use Rattle.table_core.specs.Table.{TableView, KeyView, IsPlainAt}
+use Rattle.table_core.specs.Table.{TableView, KeyView, IsTiedBlockOf}
 use Rattle.grow_core.specs.Keys.{KeyRow, AreKeys, key_at, mark_of, layout_in, names_in}
 use Rattle.grow_core.specs.Token.{PlacedView, place_in}
-use Rattle.grow_core.specs.Parts.{AreLong, AreMembers, AreWhole, HasFirstKeys, AreBrokenIn, values_in}
-use Rattle.grow_core.specs.Ties.{TagRow, ArePlainBelow, IsBlockBy, KnowsRow}
-use Rattle.grow_core.specs.Vector.{VectorView, IsPlacedOf, IsShared}
+use Rattle.grow_core.specs.Parts.{AreLong, AreMembers, AreWhole, HasFirstKeys, AreBrokenIn, AreStaged, RestagesCell, member_stage, values_in}
+use Rattle.grow_core.specs.Ties.{TagRow, KnowsRow}
+use Rattle.grow_core.specs.Vector.{VectorView, IsPlacedOf, IsShared, base_of}
 
 -- the list, by what is known of it, was closed from the vector, and is as it was then
 abbrev pub IsClosedFrom : {T : Type 0} → VectorView T → Option (List ℕ) → Type 0
@@ -68,9 +68,9 @@ IsKept f None before names row known count = Unit {0}
 IsKept f (Some mark) before names row known count = IsKeptOf f mark before names row known count
 
 -- a vector that is being closed: the list that it was opened from, the members of the new one so far, the
--- greatest length, how many there will be, the layout of its segments, and the mark that they had; the first place
--- whose segment was laid since the opening, the tie whose codes those of the cells are, and the hand that has all shares;
--- the first segment that is not closed yet, and how many are to be closed
+-- greatest length, how many there will be, the layout of its segments, and the mark that they had; the tie whose codes
+-- those of the cells are, and the hand that has all shares; the first segment that is not closed yet, and how many are to
+-- be closed
 pub record ClosingView (T : Type 0) : Type 0 where
   pub opened : List (Option T)
   pub members : List (Option T)
@@ -78,7 +78,6 @@ pub record ClosingView (T : Type 0) : Type 0 where
   pub size : ℕ
   pub layout : ℕ
   pub mark : List ℕ
-  pub laid : ℕ
   pub cells : Tie
   pub hand : HandView
   pub next : ℕ
@@ -88,8 +87,8 @@ abbrev pub closing_coded : {T : Type 0} → Coded T → Coded (ClosingView T)
 closing_coded {T} c =
     coded_via (coded× (coded_list (coded_option c))
     (coded× (coded_list (coded_option c)) (coded× coded_ℕ (coded× coded_ℕ (coded× coded_ℕ (coded× (coded_list coded_ℕ)
-    (coded× coded_ℕ (coded× tie_coded (coded× hand_coded (coded× coded_ℕ coded_ℕ))))))))))
-    (λ (v : ClosingView T). (v.opened, (v.members, (v.limit, (v.size, (v.layout, (v.mark, (v.laid, (v.cells, (v.hand, (v.next, v.count)))))))))))
+    (coded× tie_coded (coded× hand_coded (coded× coded_ℕ coded_ℕ)))))))))
+    (λ (v : ClosingView T). (v.opened, (v.members, (v.limit, (v.size, (v.layout, (v.mark, (v.cells, (v.hand, (v.next, v.count))))))))))
     (λ x y e i. record {
       opened = (e i).0;
       members = (e i).1.0;
@@ -97,11 +96,10 @@ closing_coded {T} c =
       size = (e i).1.1.1.0;
       layout = (e i).1.1.1.1.0;
       mark = (e i).1.1.1.1.1.0;
-      laid = (e i).1.1.1.1.1.1.0;
-      cells = (e i).1.1.1.1.1.1.1.0;
-      hand = (e i).1.1.1.1.1.1.1.1.0;
-      next = (e i).1.1.1.1.1.1.1.1.1.0;
-      count = (e i).1.1.1.1.1.1.1.1.1.1;
+      cells = (e i).1.1.1.1.1.1.0;
+      hand = (e i).1.1.1.1.1.1.1.0;
+      next = (e i).1.1.1.1.1.1.1.1.0;
+      count = (e i).1.1.1.1.1.1.1.1.1;
     })
 
 -- if a value was known, it is known still
@@ -118,7 +116,7 @@ KeepsKnownFrom {T} opened place settled =
 
 -- n cells of a block, from an offset on, are settled; they are the places from `place` on. The row has what is
 -- known of them from now on, in order. A value that was known stays, and a cell without one is broken for the
--- epoch. All other cells are as they were
+-- epoch. A cell that was fixed at a stage is then fixed at that of its member. All other cells are as they were
 pub record AreSettled {T : Type 0} (old new : BlockView) (offset : ℕ) (opened : List (MemberView T)) (place : ℕ)
     (old_row new_row : List (MemberView T)) (epoch : Lft) (n : ℕ) : Type 0 where
   pub settled : List (MemberView T)
@@ -132,6 +130,8 @@ pub record AreSettled {T : Type 0} (old new : BlockView) (offset : ℕ) (opened 
   pub broken : AreBrokenIn epoch settled
   pub stages : (i : ℕ) (m : MemberView T) → slice_get settled i ≡ Some m
       → HasValueByStage (cell_at old (offset + i)) m.value
+  pub fixed : (i : ℕ) (m : MemberView T) → slice_get settled i ≡ Some m
+      → RestagesCell old new (offset + i) (member_stage (Some m))
   pub before : (q : ℕ) → q < offset → cell_at new q ≡ cell_at old q
   pub after : (q : ℕ) → offset + n ≤ q → cell_at new q ≡ cell_at old q
 
@@ -162,75 +162,66 @@ IsMemberOf {T} (Some (cells.Filled value)) member = (x : T) × (member ≡ Some 
 IsMemberOf (Some (cells.Pending actor)) member = member ≡ Some None
 IsMemberOf (Some cells.Broken) member = member ≡ Some None
 
--- the history of a word leads to a list, and these members are those of its first places, at each place whose segment was
--- laid since the vector was opened
-pub record IsListSoFar {T : Type 0} (word : WordView) (laid : ℕ) (log : Log) (members : List (Option T)) : Type 0 where
+-- the history of a word leads to a list, and these members are those of its first places
+pub record IsListSoFar {T : Type 0} (word : WordView) (log : Log) (members : List (Option T)) : Type 0 where
   pub list : CellList
   pub history : IsHistory (first_list word.limit word.base word.filled) log list
-  pub each : (place : ℕ) → laid ≤ place → place < length members → IsMemberOf (slice_get list.cells place) (slice_get members place)
+  pub each : (place : ℕ) → place < length members → IsMemberOf (slice_get list.cells place) (slice_get members place)
 
 -- the same of all places
 pub record IsListOfHistory {T : Type 0} (vector : VectorView T) (log : Log) (members : List (Option T)) : Type 0 where
-  pub so_far : IsListSoFar vector.word vector.laid log members
+  pub so_far : IsListSoFar vector.word log members
   pub all : length so_far.list.cells ≡ length members
 
--- ---- Segments that are tied while a vector is being closed
+-- ---- Segments while a vector is being closed
 
--- the cells of a segment that was laid since the opening have seats in a row, with the codes of the tie; others are not tied
-pub record IsTiedByCells (cells : Tie) (f laid segment : ℕ) (block : BlockView) : Type 0 where
-  pub tied : laid ≤ segment_start f segment → mould_of block.cells ≡ row_mould cells (block_len block)
-  pub plain : segment_start f segment < laid → ArePlain block.cells
+-- the cells of a segment have seats in a row, with the codes of the tie
+abbrev pub IsTiedByCells : Tie → BlockView → Type 0
+IsTiedByCells cells block = mould_of block.cells ≡ row_mould cells (block_len block)
 
 -- The parts of a vector that was taken apart, and the keys of its first `n` segments. A segment of the opened list has
 -- the key that was kept for it
-pub record IsTakenBy {T : Type 0} (word : WordView) (segments : TableView) (known : List (MemberView T)) (count : ℕ)
+pub record IsTakenBy {T : Type 0} (word : WordView) (segments : TableView) (known : List (MemberView T))
     (cells : Tie) (row : KeyRow) (n : ℕ) : Type 0 where
   pub keys : KeyRow
-  pub ended : Lft
+  pub count : ℕ
   pub tags : TagRow
-  pub shared : IsShared word segments keys known ended count cells tags
+  pub shared : IsShared word segments keys known count cells tags
   pub first : (s : ℕ) → s < n → IsSome (key_at keys s) → key_at row s ≡ key_at keys s
 
--- the row has the keys of the segments of the opened list, and no others
+-- the keys of the row are those of their segments, and each segment with a place of the opened list has one
 pub record AreOpenedKeys {T : Type 0} (vector : VectorView T) (row : KeyRow) : Type 0 where
   pub named : AreKeys (mark_of vector.segments) row
-  pub there : (segment : ℕ) → segment < segment_count vector.segments.layout → segment_start vector.segments.layout segment < vector.laid
-      → IsSome (key_at row segment)
-  pub none : (segment : ℕ) → segment < most_segments → vector.laid ≤ segment_start vector.segments.layout segment
-      → key_at row segment ≡ None
+  pub there : (segment : ℕ) → segment_start vector.segments.layout segment < base_of vector → IsSome (key_at row segment)
 
--- from a segment on, the hand knows where the places of the row's segments stand, which are tied as the vector has them
-abbrev pub AreKnownFrom : ℕ → TableView → ℕ → HandView → KeyRow → Type 0
-AreKnownFrom next segments laid hand row =
-    (segment : ℕ) (key : KeyView) → next ≤ segment → segment < most_segments → key_at row segment ≡ Some key
-    → IsBlockBy segments laid segment key.block × KnowsRow hand segment key.block
+-- the hand knows where the places of the row's segments stand, which are tied as the vector has them
+abbrev pub AreKnown : TableView → HandView → KeyRow → Type 0
+AreKnown segments hand row =
+    (segment : ℕ) (key : KeyView) → segment < most_segments → key_at row segment ≡ Some key
+    → IsTiedBlockOf segments segment key.block × KnowsRow hand segment key.block
 
 -- A vector that is being closed keeps this, next to its list. The word is open, and the whole hand is there. The segments
--- from `next` on are still as they were, and the hand knows where their places stand if they are tied; those before it are
--- plain, and so are those of the opened list. The members so far are those of the history's list
-pub record IsStillOpen {T : Type 0} (word : WordView) (hand : HandView) (cells : Tie) (segments : TableView)
-    (laid next count size : ℕ) (row : KeyRow) (known : List (MemberView T)) : Type 0 where
+-- from `next` on are still as they were, and the hand knows where their places stand; the cells of those before it are
+-- fixed at the stages of their members. The members so far are those of the history's list
+pub record IsStillOpen {T : Type 0} (word : WordView) (hand : HandView) (cells : Tie) (f next count size : ℕ)
+    (row : KeyRow) (known : List (MemberView T)) : Type 0 where
   pub of : hand.of ≡ word
-  pub mark : layout_in hand.of.mark ≡ segments.layout
+  pub mark : layout_in hand.of.mark ≡ f
   pub whole : IsWholeHand hand
   pub sized : size ≡ seen_size hand
   pub tied : IsTiedTo word cells
   pub open_still : (segment : ℕ) (key : KeyView) → next ≤ segment → segment < count → key_at row segment ≡ Some key
-      → IsTiedByCells cells segments.layout laid segment key.block × KnowsRow hand segment key.block
-  pub closed : ArePlainBelow segments next
-  pub at : length known < size → length known ≡ segment_start segments.layout next
-  pub past : length known ≤ segment_start segments.layout next
-  pub opened : (segment : ℕ) → segment < segment_count segments.layout → segment_start segments.layout segment < laid
-      → IsPlainAt segments segment
-  pub list : IsListSoFar word laid hand.log (values_in known)
+      → IsTiedByCells cells key.block × KnowsRow hand segment key.block
+  pub closed : AreStaged f row known next
+  pub at : length known < size → length known ≡ segment_start f next
+  pub past : length known ≤ segment_start f next
+  pub list : IsListSoFar word hand.log (values_in known)
 
--- each cell of a segment that was laid since the opening is fixed at its stage, and has its names except for the tie
-pub record AreFixed (f laid segment : ℕ) (old new : BlockView) : Type 0 where
+-- each cell of a segment is fixed at a stage, and has its names except for the tie
+pub record AreFixed (old new : BlockView) : Type 0 where
   pub len : block_len new ≡ block_len old
-  pub same : segment_start f segment < laid → new ≡ old
   pub cells : (q : ℕ) → untied (cell_at new q) ≡ untied (cell_at old q)
-  pub fixed : laid ≤ segment_start f segment → (q : ℕ) → q < block_len new
-      → (stage : Stage) × (stage_in (cell_at new q) ≡ Some stage)
+  pub fixed : (q : ℕ) → q < block_len new → (stage : Stage) × (stage_in (cell_at new q) ≡ Some stage)
 
 -- and the history of the hand shows the place as a cell at this stage is
 abbrev pub AreToldBy : HandView → ℕ → ℕ → BlockView → Type 0

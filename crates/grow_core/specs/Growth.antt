@@ -3,11 +3,9 @@ use Rattle.std.specs.Prelude.{◌≡◌, ℕ, ◌+◌, ◌<◌, ◌≤◌, List,
 use Rattle.claim_core.specs.declared.run.Run.{Run}
 use Rattle.claim_core.specs.Hand.{HandView, AddsRun, OwnsRun, SeesSize, IsWholeHand, seen_size}
 pub use Rattle.claim_core.specs.Hand.{single}
-use Rattle.grow_core.specs.declared.token.Found.{Found}
-use Rattle.grow_core.specs.declared.token.Found.TheVariants as found
 use Rattle.grow_core.specs.declared.errors.GrowError.{GrowError}
 use Rattle.grow_core.specs.declared.errors.GrowError.TheVariants.{NoMemory, Full, Moved, Refused, Taken}
-use Rattle.grow_core.specs.Vector.{VectorView, IsPlacedOf, IsSpoiltOf, IsBegunOf, SeesMore, limit_of}
+use Rattle.grow_core.specs.Vector.{VectorView, IsPlacedOf, SeesMore, limit_of}
 use Rattle.grow_core.specs.Token.{PlacedView}
 use Rattle.grow_core.specs.Grown.{GrownView, IsGrownOf, values_of}
 
@@ -45,22 +43,6 @@ pub record WonPlaces (wanted : ℕ) (old new : HandView) (won : Run) : Type 0 wh
   pub not_below : seen_size old ≤ won.from
   pub alone : IsWholeHand old → won.from ≡ seen_size old
 
--- what a call found at the place
-abbrev pub IsFoundAt : {T : Type 0} → VectorView T → ℕ → Found T → Type 0
-IsFoundAt vector place (found.Busy begun) = IsBegunOf vector begun × (begun.place ≡ place)
-IsFoundAt vector place (found.Filled placed) = IsPlacedOf vector placed × (placed.place ≡ place)
-IsFoundAt vector place (found.Broken spoilt) = IsSpoiltOf vector spoilt × (spoilt.place ≡ place)
-
--- the hand owns one more run, of n places, and one of them was taken
-pub record LosesPlace {T : Type 0} (vector : VectorView T) (n : ℕ) (old new : HandView) (place : ℕ)
-    (found : Found T) : Type 0 where
-  pub run : Run
-  pub claimed : AddsRun old new run
-  pub all : run.n ≡ n
-  pub after : run.from ≤ place
-  pub before : place < run.from + n
-  pub there : IsFoundAt vector place found
-
 -- the hand owns one more run, of n places, and the first of them have the values that were made. The run
 -- begins at or above the size that the hand had seen, and there when the hand is whole
 pub record KeepsMade {T : Type 0} (vector : VectorView T) (n : ℕ) (old new : HandView) (run : Run)
@@ -93,13 +75,13 @@ pub record LacksMemory {T : Type 0} (vector : VectorView T) (n : ℕ) (old new :
   pub more : SeesMore old new
   pub room : HasRoom vector n new
 
--- when each refusal comes, by what the hand had seen before the call
+-- when each refusal comes, by what the hand had seen before the call. No place of a run that a hand has won is taken
 abbrev pub IsDue : {T V E : Type 0} → VectorView T → ℕ → HandView → GrowError T V E → Type 0
 IsDue vector n old (NoMemory back) = HasRoom vector n old
 IsDue vector n old (Full size back) = limit_of vector < size + n
 IsDue vector n old (Moved size back) = IsOvertaken vector n old size
 IsDue vector n old (Refused run made cause) = Unit {0}
-IsDue vector n old (Taken place found) = Unit {0}
+IsDue vector n old (Taken place found) = ⊥
 
 -- what each refusal leaves of the hand, and shows of the vector
 abbrev pub Leaves : {T V E : Type 0} → VectorView T → ℕ → HandView → HandView → GrowError T V E → Type 0
@@ -107,7 +89,7 @@ Leaves vector n old new (NoMemory back) = LacksMemory vector n old new
 Leaves vector n old new (Full size back) = SeesSize old new size
 Leaves vector n old new (Moved size back) = SeesSize old new size
 Leaves vector n old new (Refused run made cause) = KeepsMade vector n old new run made
-Leaves vector n old new (Taken place found) = LosesPlace vector n old new place found
+Leaves vector n old new (Taken place found) = ⊥
 
 -- a refusal that claims nothing gives back what was moved in
 abbrev pub GivesBack : {T V E : Type 0} → V → GrowError T V E → Type 0

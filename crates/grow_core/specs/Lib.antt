@@ -2,6 +2,7 @@ pub mod Token
 pub mod Vector
 pub mod Closing
 pub mod Keys
+pub mod Opening
 pub mod Parts
 pub mod Grown
 pub mod Read
@@ -18,7 +19,6 @@ pub mod Shown
 pub mod Segment
 pub mod Stretch
 pub mod Filled
-pub mod Begun
 pub mod BrokenRun
 pub mod Slices
 pub mod PopSegment

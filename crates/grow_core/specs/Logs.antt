@@ -1,6 +1,6 @@
 -- The events that calls add to the history that their hand has seen. Each atomic step of a call that logs some has a list
 -- of its own. Events of others may come between the steps, and after the last.
-use Rattle.std.specs.Prelude.{◌≡◌, ℕ, ◌+◌, ◌-◌, ◌<◌, ◌≤◌, List, [], ◌∷◌, ◌++◌, map, length, Result, Ok, Err}
+use Rattle.std.specs.Prelude.{◌≡◌, ℕ, ◌+◌, ◌-◌, ◌<◌, List, [], ◌∷◌, ◌++◌, map, length, Result, Ok, Err}
 use Rattle.std.specs.List.{Contains, range_with_len}
 use mathlib.Core.List.{IsPrefix}
 use Rattle.book_core.specs.declared.events.Event.{Event}
@@ -22,7 +22,7 @@ use Rattle.grow_core.specs.declared.grow_to_at_least.AtLeast.TheVariants.{Ran, E
 use Rattle.grow_core.specs.declared.grow_to_at_least.Reached.{Reached}
 use Rattle.grow_core.specs.declared.grow_to_at_least.Reached.TheVariants as reached
 use Rattle.grow_core.specs.Token.{PlacedView}
-use Rattle.grow_core.specs.Vector.{VectorView, IsLaid, limit_of}
+use Rattle.grow_core.specs.Vector.{VectorView, limit_of}
 
 -- ---- Steps
 
@@ -33,10 +33,6 @@ LogsNothing old new = IsPrefix old.log new.log
 -- one step with one event
 abbrev pub step_of : Event × Reply → List Log
 step_of event = (event ∷ []) ∷ []
-
--- The hand has added these steps, if the segment of the place was laid since the vector was opened
-abbrev pub LogsLaid : {T : Type 0} → VectorView T → ℕ → HandView → HandView → List Log → Type 0
-LogsLaid vector place old new steps = IsLaid vector place → Adds old.log steps new.log
 
 -- the actor fills n places from one on, in order: a step for each
 abbrev pub fill_steps : ℕ → ℕ → ℕ → List Log
@@ -70,15 +66,14 @@ pub record LogsClaim (claim : ℕ → Event × Reply) (old new : HandView) : Typ
   pub last : length new.seen ≡ index + 1
   pub adds : Adds old.log (step_of (claim index)) new.log
 
--- the same, and then come the steps on the run's places, if these are in segments that were laid since the opening
-pub record LogsWin {T : Type 0} (vector : VectorView T) (claim : ℕ → Event × Reply) (fate : Fate) (run : Run)
-    (old new : HandView) : Type 0 where
+-- the same, and then come the steps on the run's places
+pub record LogsWin (claim : ℕ → Event × Reply) (fate : Fate) (run : Run) (old new : HandView) : Type 0 where
   pub claimed : LogsClaim claim old new
-  pub places : LogsLaid vector run.from old new (step_of (claim claimed.index) ++ fate_steps fate claimed.index run)
+  pub places : Adds old.log (step_of (claim claimed.index) ++ fate_steps fate claimed.index run) new.log
 
 -- a growth won: its run is claimed and filled, or it has no places and claims none
-pub record LogsGrowth {T : Type 0} (vector : VectorView T) (fate : Fate) (old new : HandView) (run : Run) : Type 0 where
-  pub some : 0 < run.n → LogsWin vector (λ index. claim_event index run) fate run old new
+pub record LogsGrowth (fate : Fate) (old new : HandView) (run : Run) : Type 0 where
+  pub some : 0 < run.n → LogsWin (λ index. claim_event index run) fate run old new
   pub empty : run.n ≡ 0 → Adds old.log (step_of (claim_event 0 run)) new.log
 
 -- the same, before its places are filled
@@ -87,59 +82,41 @@ pub record LogsClaimed (old new : HandView) (run : Run) : Type 0 where
   pub empty : run.n ≡ 0 → Adds old.log (step_of (claim_event 0 run)) new.log
 
 -- a push won its place, and filled it
-abbrev pub LogsPush : {T : Type 0} → VectorView T → HandView → HandView → ℕ → Type 0
-LogsPush vector old new place = LogsWin vector (λ index. claim_event index (single place)) AllFilled (single place) old new
+abbrev pub LogsPush : HandView → HandView → ℕ → Type 0
+LogsPush old new place = LogsWin (λ index. claim_event index (single place)) AllFilled (single place) old new
 
 -- ---- Refused growths
 
--- a run of n places is claimed that has this place, which is in a segment of the opened list
-pub record LogsTaken {T : Type 0} (vector : VectorView T) (n place : ℕ) (old new : HandView) : Type 0 where
-  pub run : Run
-  pub claimed : LogsClaim (λ index. claim_event index run) old new
-  pub all : run.n ≡ n
-  pub after : run.from ≤ place
-  pub before : place < run.from + n
-  pub opened : place < vector.laid
-
 -- a growth by n places was refused: the event whose reply the refusal is; or what became of its run, if it has claimed one
-abbrev pub LogsRefusal : {T V E : Type 0} → VectorView T → ℕ → HandView → HandView → GrowError T V E → Type 0
-LogsRefusal vector n old new (NoMemory back) = AddsEvents old.log (memory_event ∷ []) new.log
-LogsRefusal vector n old new (Full size back) = AddsEvents old.log (full_event n size ∷ []) new.log
-LogsRefusal vector n old new (Moved size back) = LogsNothing old new
-LogsRefusal vector n old new (Refused run made cause) =
-    LogsWin vector (λ index. claim_event index run) (PartFilled made.run.n) run old new
-LogsRefusal vector n old new (Taken place found) = LogsTaken vector n place old new
+abbrev pub LogsRefusal : {T V E : Type 0} → ℕ → HandView → HandView → GrowError T V E → Type 0
+LogsRefusal n old new (NoMemory back) = AddsEvents old.log (memory_event ∷ []) new.log
+LogsRefusal n old new (Full size back) = AddsEvents old.log (full_event n size ∷ []) new.log
+LogsRefusal n old new (Moved size back) = LogsNothing old new
+LogsRefusal n old new (Refused run made cause) =
+    LogsWin (λ index. claim_event index run) (PartFilled made.run.n) run old new
+LogsRefusal n old new (Taken place found) = ⊥
 
 -- ---- Growths up to a size
 
 -- such a growth won, or was not needed
-abbrev pub LogsAtLeast : {T : Type 0} → VectorView T → ℕ → HandView → HandView → AtLeast T → Type 0
-LogsAtLeast vector to old new (Ran grown) =
-    LogsWin vector (λ index. raise_event index to grown.run) AllFilled grown.run old new
-LogsAtLeast vector to old new (Enough size) = AddsEvents old.log (enough_event to size ∷ []) new.log
+abbrev pub LogsAtLeast : {T : Type 0} → ℕ → HandView → HandView → AtLeast T → Type 0
+LogsAtLeast to old new (Ran grown) =
+    LogsWin (λ index. raise_event index to grown.run) AllFilled grown.run old new
+LogsAtLeast to old new (Enough size) = AddsEvents old.log (enough_event to size ∷ []) new.log
 
 -- so did its claim, whose places are not filled yet
 abbrev pub LogsReached : ℕ → HandView → HandView → Reached → Type 0
 LogsReached to old new (reached.Won run) = LogsClaim (λ index. raise_event index to run) old new
 LogsReached to old new (reached.Enough size) = AddsEvents old.log (enough_event to size ∷ []) new.log
 
--- a run up to a size is claimed that has this place, which is in a segment of the opened list
-pub record LogsTakenBelow {T : Type 0} (vector : VectorView T) (to place : ℕ) (old new : HandView) : Type 0 where
-  pub run : Run
-  pub claimed : LogsClaim (λ index. raise_event index to run) old new
-  pub ends : run.from + run.n ≡ to
-  pub after : run.from ≤ place
-  pub before : place < to
-  pub opened : place < vector.laid
-
 -- such a growth was refused
-abbrev pub LogsRefusalUpTo : {T V E : Type 0} → VectorView T → ℕ → HandView → HandView → GrowError T V E → Type 0
-LogsRefusalUpTo vector to old new (NoMemory back) = AddsEvents old.log (memory_event ∷ []) new.log
-LogsRefusalUpTo vector to old new (Full size back) = AddsEvents old.log (full_event (to - size) size ∷ []) new.log
-LogsRefusalUpTo vector to old new (Moved size back) = ⊥
-LogsRefusalUpTo vector to old new (Refused run made cause) =
-    LogsWin vector (λ index. raise_event index to run) (PartFilled made.run.n) run old new
-LogsRefusalUpTo vector to old new (Taken place found) = LogsTakenBelow vector to place old new
+abbrev pub LogsRefusalUpTo : {T V E : Type 0} → ℕ → HandView → HandView → GrowError T V E → Type 0
+LogsRefusalUpTo to old new (NoMemory back) = AddsEvents old.log (memory_event ∷ []) new.log
+LogsRefusalUpTo to old new (Full size back) = AddsEvents old.log (full_event (to - size) size ∷ []) new.log
+LogsRefusalUpTo to old new (Moved size back) = ⊥
+LogsRefusalUpTo to old new (Refused run made cause) =
+    LogsWin (λ index. raise_event index to run) (PartFilled made.run.n) run old new
+LogsRefusalUpTo to old new (Taken place found) = ⊥
 
 -- ---- Looks
 
@@ -155,19 +132,19 @@ abbrev pub broken_look : ℕ → Event × Reply
 broken_look place = (Look 0 place, replies.Broken)
 
 -- a read without a token found a value
-abbrev pub LogsValue : {T : Type 0} → VectorView T → ℕ → HandView → HandView → Type 0
-LogsValue vector place old new = LogsLaid vector place old new (step_of (value_look place))
+abbrev pub LogsValue : ℕ → HandView → HandView → Type 0
+LogsValue place old new = Adds old.log (step_of (value_look place)) new.log
 
--- it found none. A look that finds the place at or above the size is logged wherever it is
-abbrev pub LogsNoValue : {T : Type 0} → VectorView T → ℕ → HandView → HandView → AtError → Type 0
-LogsNoValue vector place old new (at.OutOfRange size) = AddsEvents old.log (past_event place size ∷ []) new.log
-LogsNoValue vector place old new at.Pending = LogsLaid vector place old new (step_of (pending_look place))
-LogsNoValue vector place old new (at.Broken spoilt) = LogsLaid vector place old new (step_of (broken_look place))
+-- it found none
+abbrev pub LogsNoValue : ℕ → HandView → HandView → AtError → Type 0
+LogsNoValue place old new (at.OutOfRange size) = AddsEvents old.log (past_event place size ∷ []) new.log
+LogsNoValue place old new at.Pending = Adds old.log (step_of (pending_look place)) new.log
+LogsNoValue place old new (at.Broken spoilt) = Adds old.log (step_of (broken_look place)) new.log
 
 -- it returned this
-abbrev pub LogsRead : {T : Type 0} → VectorView T → ℕ → HandView → HandView → Result (At T) AtError → Type 0
-LogsRead vector place old new (Ok found) = LogsValue vector place old new
-LogsRead vector place old new (Err error) = LogsNoValue vector place old new error
+abbrev pub LogsRead : {T : Type 0} → ℕ → HandView → HandView → Result (At T) AtError → Type 0
+LogsRead place old new (Ok found) = LogsValue place old new
+LogsRead place old new (Err error) = LogsNoValue place old new error
 
 -- a look at a place was refused
 abbrev pub LogsAtRefusal : ℕ → HandView → HandView → AtError → Type 0
@@ -181,15 +158,15 @@ abbrev pub mend_steps : ℕ → ℕ → List Log
 mend_steps limit place = step_of (mend_event limit place) ++ fill_steps (mender_of limit place) place 1
 
 -- a mend returned why it did not fill its place
-abbrev pub LogsNoMend : {T : Type 0} → VectorView T → ℕ → HandView → HandView → MendError T × T → Type 0
-LogsNoMend vector place old new (mend.OutOfRange size, back) = AddsEvents old.log (past_event place size ∷ []) new.log
-LogsNoMend vector place old new (mend.Pending, back) = LogsLaid vector place old new (step_of (pending_look place))
-LogsNoMend vector place old new (mend.Filled placed, back) = LogsLaid vector place old new (step_of (value_look place))
+abbrev pub LogsNoMend : {T : Type 0} → ℕ → HandView → HandView → MendError T × T → Type 0
+LogsNoMend place old new (mend.OutOfRange size, back) = AddsEvents old.log (past_event place size ∷ []) new.log
+LogsNoMend place old new (mend.Pending, back) = Adds old.log (step_of (pending_look place)) new.log
+LogsNoMend place old new (mend.Filled placed, back) = Adds old.log (step_of (value_look place)) new.log
 
 -- a mend filled its place, or returned why not
 abbrev pub LogsMend : {T : Type 0} → VectorView T → ℕ → HandView → HandView → Result (PlacedView T) (MendError T × T) → Type 0
-LogsMend vector place old new (Ok placed) = LogsLaid vector place old new (mend_steps (limit_of vector) place)
-LogsMend vector place old new (Err refusal) = LogsNoMend vector place old new refusal
+LogsMend vector place old new (Ok placed) = Adds old.log (mend_steps (limit_of vector) place) new.log
+LogsMend vector place old new (Err refusal) = LogsNoMend place old new refusal
 
 -- a place was not mended
 abbrev pub LogsMendRefusal : {T : Type 0} → ℕ → HandView → HandView → MendError T → Type 0

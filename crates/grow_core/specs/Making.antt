@@ -3,13 +3,12 @@ use Rattle.std.specs.Prelude.{◌≡◌, ℕ, ◌+◌, ◌<◌, ◌≤◌, List,
 use Rattle.std.specs.List.{FoldsTo}
 use Rattle.claim_core.specs.declared.run.Run.{Run}
 use Rattle.claim_core.specs.Hand.{HandView, OwnsRun, IsWholeHand, seen_size}
-use Rattle.grow_core.specs.declared.token.Found.{Found}
 use Rattle.grow_core.specs.declared.errors.GrowError.{GrowError}
 use Rattle.grow_core.specs.declared.errors.GrowError.TheVariants.{Refused, Taken}
 use Rattle.grow_core.specs.Vector.{VectorView, limit_of}
 use Rattle.grow_core.specs.Keys.{OwnsPlacesOf}
 use Rattle.grow_core.specs.Grown.{GrownView, IsGrownOf, values_of}
-use Rattle.grow_core.specs.Growth.{Grows, WonRun, IsFoundAt}
+use Rattle.grow_core.specs.Growth.{Grows, WonRun}
 
 -- asked for 0, 1, .. in turn, the maker made these values, and is then the last one. A step of it has the
 -- maker before, the number, the result and the maker after
@@ -33,11 +32,10 @@ abbrev pub StopsAfter : {F T E : Type 0} → (F → ℕ → Result T E → F →
 StopsAfter {F} step maker values cause =
     (last : F) × Makes step maker values last × ((end : F) × step last (length values) (Err cause) end)
 
--- what a refused growth leaves of its maker: it was asked up to its refusal, or not at all. Nothing is said
--- when a place was taken
+-- what a refused growth leaves of its maker: it was asked up to its refusal, or not at all
 abbrev pub LeavesMaker : {F T V E : Type 0} → (F → ℕ → Result T E → F → Type 0) → F → F → GrowError T V E → Type 0
 LeavesMaker step maker end (Refused run made cause) = StopsAt step maker (values_of made) cause end
-LeavesMaker step maker end (Taken place found) = Unit {0}
+LeavesMaker step maker end (Taken place found) = ⊥
 LeavesMaker step maker end refusal = end ≡ maker
 
 -- a growth of `wanted` places won: its values are what the maker returned for 0, 1, 2 and so on
@@ -71,36 +69,11 @@ pub record IsClaimed {T : Type 0} (vector : VectorView T) (wanted : ℕ) (old ne
   pub alone : IsWholeHand old → run.from ≡ seen_size old
   pub within : run.from + run.n ≤ limit_of vector
 
--- a place of the run was taken, and this was found there
-abbrev pub IsTakenIn : {T : Type 0} → VectorView T → Run → ℕ → Found T → Type 0
-IsTakenIn vector run place found = (run.from ≤ place) × (place < run.from + run.n) × IsFoundAt vector place found
-
--- a run that is claimed could not be filled: a construction was refused, or a place was taken
+-- a run that is claimed could not be filled: a construction was refused
 abbrev pub StopsIn : {T V E : Type 0} → VectorView T → Run → GrowError T V E → Type 0
 StopsIn vector run (Refused of made cause) =
     (of ≡ run) × (made.run.from ≡ run.from) × (made.run.n < run.n) × IsGrownOf vector made
-StopsIn vector run (Taken place found) = IsTakenIn vector run place found
 StopsIn vector run refusal = ⊥
-
--- a place that was taken is not below this one
-abbrev pub IsTakenFrom : {T V E : Type 0} → ℕ → GrowError T V E → Type 0
-IsTakenFrom from (Taken place found) = from ≤ place
-IsTakenFrom from refusal = Unit {0}
-
--- a place below this one was taken, and nothing else went wrong
-abbrev pub IsTakenBelow : {T V E : Type 0} → ℕ → GrowError T V E → Type 0
-IsTakenBelow end (Taken place found) = place < end
-IsTakenBelow end refusal = ⊥
-
--- if a place was taken, it is below this one
-abbrev pub TakesBelow : {T V E : Type 0} → ℕ → GrowError T V E → Type 0
-TakesBelow end (Taken place found) = place < end
-TakesBelow end refusal = Unit {0}
-
--- a construction was refused, and then this holds
-abbrev pub OnRefused : {T V E : Type 0} → GrowError T V E → Type 0 → Type 0
-OnRefused (Refused run made cause) then_holds = then_holds
-OnRefused refusal then_holds = Unit {0}
 
 -- if a construction was refused, that was after this number of values
 abbrev pub IsRefusedAfter : {T V E : Type 0} → ℕ → GrowError T V E → Type 0

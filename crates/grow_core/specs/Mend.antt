@@ -1,11 +1,8 @@
 -- What `mend` returns.
 use Rattle.std.specs.Prelude.{◌≡◌, ℕ, ◌<◌, ◌≤◌}
 use Rattle.claim_core.specs.Hand.{HandView, SeesSize, seen_size}
-use Rattle.cell_core.specs.Block.{PenView, IsPenAt, IsMending, block_len}
-use Rattle.table_core.specs.Table.{TableView, KeyView, IsKeyIn, IsBlockOf}
 use Rattle.grow_core.specs.declared.errors.MendError.{MendError}
 use Rattle.grow_core.specs.declared.errors.MendError.TheVariants.{OutOfRange, Pending, Filled}
-use Rattle.grow_core.specs.Token.{place_in}
 use Rattle.grow_core.specs.Vector.{VectorView, IsPlacedOf}
 
 -- what is said of a place that is not mended: nothing of a pending one, and a filled one has a token
@@ -32,16 +29,12 @@ abbrev pub SaysFilled : {T : Type 0} → MendError T → Type 0
 SaysFilled (Filled placed) = Unit {0}
 SaysFilled other = ⊥
 
+-- if the place is filled, it has this value
+abbrev pub TellsNoOther : {T : Type 0} → T → MendError T → Type 0
+TellsNoOther x (Filled placed) = placed.value ≡ x
+TellsNoOther x other = Unit {0}
+
 -- the place is filled, with this value
 abbrev pub TellsValue : {T : Type 0} → T → MendError T → Type 0
 TellsValue x (Filled placed) = placed.value ≡ x
 TellsValue x other = ⊥
-
--- the right to write the place, which was broken, with the key of its segment
-pub record IsTakenAt (segments : TableView) (place : ℕ) (taken : KeyView × PenView) : Type 0 where
-  pub key : IsKeyIn segments taken.0
-  pub long : IsBlockOf segments.layout taken.0.segment taken.0.block
-  pub within : taken.1.offset < block_len taken.0.block
-  pub pen : IsPenAt taken.0.block taken.1.offset taken.1
-  pub broken : IsMending taken.1
-  pub here : place ≡ place_in segments.layout taken.0.segment taken.1.offset

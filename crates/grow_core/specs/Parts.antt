@@ -1,10 +1,12 @@
 -- What an exclusive owner holds of a vector.
-use Rattle.std.specs.Prelude.{◌≡◌, ℕ, ◌+◌, ◌-◌, ◌<◌, ◌≤◌, Bool, List, [], ◌∷◌, Option, Some, None, IsSome, is_some, length, map, slice_get}
+use Rattle.std.specs.Prelude.{◌≡◌, ℕ, ◌+◌, ◌-◌, ◌<◌, ◌≤◌, Bool, List, [], ◌∷◌, Option, Some, None, IsSome, is_some, if◌then◌else◌, length, map, slice_get}
 use Rattle.std.specs.Coded.{coded_option}
 use base.Fml.{Lft}
 use base.Stored.{Coded, coded×, coded_ℕ, coded_list, coded_via}
 use Rattle.seg_core.specs.Segment.{segment_start, segment_end, segment_count, IsLayout, IsLimit, most_segments}
-use Rattle.cell_core.specs.Block.{IsMemberAt}
+use Rattle.tie_core.specs.Tie.{Stage, Idle, Filled, Broken}
+use Rattle.cell_core.specs.Block.{BlockView, IsMemberAt, block_len, cell_at}
+use Rattle.cell_core.specs.Fixed.{stage_in}
 use Rattle.cell_core.specs.Member.{MemberView}
 use Rattle.table_core.specs.Table.{KeyView, IsBlockOf}
 use Rattle.grow_core.specs.Keys.{KeyRow, AreKeys, key_at}
@@ -100,3 +102,21 @@ pub record AreWhole {T : Type 0} (f : ℕ) (names : List ℕ) (row : KeyRow) (kn
   pub long : AreLong f row
   pub there : HasFirstKeys row count
   pub of : AreMembers f row known
+
+-- ---- How the cells of a list are fixed
+
+-- the stage that a cell is fixed at: filled or broken as its member is, and idle if there is none
+abbrev pub member_stage : {T : Type 0} → Option (MemberView T) → Stage
+member_stage None = Idle
+member_stage (Some m) = if is_some m.value then Filled else Broken
+
+-- the cell at the offset was fixed at no stage, or is fixed at this one now
+abbrev pub RestagesCell : BlockView → BlockView → ℕ → Stage → Type 0
+RestagesCell old new offset stage =
+    (s : Stage) → stage_in (cell_at old offset) ≡ Some s → stage_in (cell_at new offset) ≡ Some stage
+
+-- the cells of the first `count` segments are fixed at the stages of the members, and of the places past them
+abbrev pub AreStaged : {T : Type 0} → ℕ → KeyRow → List (MemberView T) → ℕ → Type 0
+AreStaged {T} f row known count =
+    (segment offset : ℕ) (key : KeyView) → segment < count → key_at row segment ≡ Some key → offset < block_len key.block
+    → stage_in (cell_at key.block offset) ≡ Some (member_stage (slice_get known (place_in f segment offset)))

@@ -20,6 +20,11 @@ IsShownAt vector place shown.Pending = Unit {0}
 IsShownAt vector place (shown.Filled at) = IsAt vector place at
 IsShownAt vector place (shown.Broken spoilt) = IsSpoiltOf vector spoilt × (spoilt.place ≡ place)
 
+-- if a value is shown, it is this one
+abbrev pub ShowsNoOther : {T : Type 0} → T → Shown T → Type 0
+ShowsNoOther x (shown.Filled at) = at.value.now ≡ x
+ShowsNoOther x other = Unit {0}
+
 -- this value is shown
 abbrev pub ShowsValue : {T : Type 0} → T → Shown T → Type 0
 ShowsValue x (shown.Filled at) = at.value.now ≡ x

@@ -4,14 +4,13 @@ use Rattle.cell_core.specs.declared.block.shown.Look.{Look}
 use Rattle.cell_core.specs.declared.block.shown.Look.TheVariants as look
 use Rattle.cell_core.specs.declared.block.shown.Found.{Found}
 use Rattle.cell_core.specs.declared.block.shown.Found.TheVariants as found
-use Rattle.claim_core.specs.History.{Log, mend_event, past_event}
+use Rattle.claim_core.specs.History.{Log, Adds, mend_event, past_event}
 use Rattle.claim_core.specs.Hand.{HandView}
 use Rattle.grow_core.specs.declared.errors.MendError.{MendError}
 use Rattle.grow_core.specs.declared.errors.MendError.TheVariants as mend
 use Rattle.grow_core.specs.declared.read.Shown.{Shown}
 use Rattle.grow_core.specs.declared.read.Shown.TheVariants as shown
-use Rattle.grow_core.specs.Vector.{VectorView}
-use Rattle.grow_core.specs.Logs.{LogsLaid, step_of, pending_look, value_look, broken_look}
+use Rattle.grow_core.specs.Logs.{step_of, pending_look, value_look, broken_look}
 
 -- a look: a place that nobody has finished is pending
 abbrev pub look_steps : {T : Type 0} → ℕ → Look T → List Log
@@ -47,6 +46,6 @@ shown_steps place shown.Pending = step_of (pending_look place)
 shown_steps place (shown.Filled at) = step_of (value_look place)
 shown_steps place (shown.Broken spoilt) = step_of (broken_look place)
 
--- the hand has looked at a place, if its segment was laid since the opening, and this is what the look showed
-abbrev pub LogsShown : {T : Type 0} → VectorView T → ℕ → HandView → HandView → Shown T → Type 0
-LogsShown vector place old new shown = LogsLaid vector place old new (shown_steps place shown)
+-- the hand has looked at a place, and this is what the look showed
+abbrev pub LogsShown : {T : Type 0} → ℕ → HandView → HandView → Shown T → Type 0
+LogsShown place old new shown = Adds old.log (shown_steps place shown) new.log

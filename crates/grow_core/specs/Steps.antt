@@ -10,9 +10,8 @@ use Rattle.claim_core.specs.Lengths.{InRun}
 use Rattle.claim_core.specs.Hand.{HandView, KeepsOwn, SeesRun}
 use Rattle.claim_core.specs.History.{Log, Adds}
 use Rattle.grow_core.specs.declared.errors.GrowError.{GrowError}
-use Rattle.grow_core.specs.declared.errors.GrowError.TheVariants.{Refused, Taken}
-use Rattle.grow_core.specs.Logs.{LogsLaid, step_of, stop_steps}
-use Rattle.grow_core.specs.Vector.{VectorView}
+use Rattle.grow_core.specs.declared.errors.GrowError.TheVariants.{Refused}
+use Rattle.grow_core.specs.Logs.{step_of, stop_steps}
 
 -- the hand has seen the same size, and owns the same
 pub record KeepsHand (old new : HandView) : Type 0 where
@@ -39,10 +38,6 @@ pub record LooksAt (old new : HandView) (steps : List Log) : Type 0 where
   pub finds : FindsMore old new
   pub adds : Adds old.log steps new.log
 
--- the hand has done nothing, and learned nothing
-abbrev pub IsUntouched : HandView → HandView → Type 0
-IsUntouched old new = new ≡ old
-
 -- none of n places from one on is known to be begun
 abbrev pub AreFresh : HandView → ℕ → ℕ → Type 0
 AreFresh hand from n = (place : ℕ) → from ≤ place → place < from + n → Contains hand.begun place → ⊥
@@ -63,25 +58,20 @@ pub record OwnsPlaceAt (hand : HandView) (index place : ℕ) : Type 0 where
   pub owned : Contains hand.mine index
   pub in_run : InRun hand.of.base hand.seen index place
 
--- The hand works on a place of its own: the event is of the actor whose index its run has. So below: steps are added if
--- their first place is in a segment that was laid since the opening
-abbrev pub AddsAt : {T : Type 0} → VectorView T → HandView → HandView → ℕ → (ℕ → Event × Reply) → Type 0
-AddsAt vector old new place event =
-    (index : ℕ) → OwnsPlaceAt old index place → LogsLaid vector place old new (step_of (event index))
+-- the hand works on a place of its own: the event is of the actor whose index its run has
+abbrev pub AddsAt : HandView → HandView → ℕ → (ℕ → Event × Reply) → Type 0
+AddsAt old new place event = (index : ℕ) → OwnsPlaceAt old index place → Adds old.log (step_of (event index)) new.log
 
 -- the hand works on n places next to each other that are all in its run of one index
-abbrev pub AddsAlong : {T : Type 0} → VectorView T → HandView → HandView → ℕ → ℕ → (ℕ → List Log) → Type 0
-AddsAlong vector old new from n steps =
-    (index : ℕ) → ((i : ℕ) → i < n → OwnsPlaceAt old index (from + i)) → LogsLaid vector from old new (steps index)
+abbrev pub AddsAlong : HandView → HandView → ℕ → ℕ → (ℕ → List Log) → Type 0
+AddsAlong old new from n steps =
+    (index : ℕ) → ((i : ℕ) → i < n → OwnsPlaceAt old index (from + i)) → Adds old.log (steps index) new.log
 
--- the hand works on places of its run of an index, from one on: the steps are of the actor of that index
-abbrev pub AddsOn : {T : Type 0} → VectorView T → HandView → HandView → Run → ℕ → (ℕ → List Log) → Type 0
-AddsOn vector old new run from steps = (index : ℕ) → OwnsRunAt old index run → LogsLaid vector from old new (steps index)
+-- the hand works on its run of an index: the steps are of the actor of that index
+abbrev pub AddsOn : HandView → HandView → Run → (ℕ → List Log) → Type 0
+AddsOn old new run steps = (index : ℕ) → OwnsRunAt old index run → Adds old.log (steps index) new.log
 
--- the hand's run could not be filled: after a refused construction the first places are filled and the others broken, and
--- a place that was taken is in a segment of the opened list
-abbrev pub StopsWith : {T V E : Type 0} → VectorView T → HandView → HandView → Run → GrowError T V E → Type 0
-StopsWith vector old new run (Refused of made cause) =
-    AddsOn vector old new run run.from (λ index. stop_steps index run made.run.n)
-StopsWith vector old new run (Taken place found) = place < vector.laid
-StopsWith vector old new run refusal = ⊥
+-- the hand's run could not be filled: after a refused construction the first places are filled and the others broken
+abbrev pub StopsWith : {T V E : Type 0} → HandView → HandView → Run → GrowError T V E → Type 0
+StopsWith old new run (Refused of made cause) = AddsOn old new run (λ index. stop_steps index run made.run.n)
+StopsWith old new run refusal = ⊥

@@ -1,5 +1,5 @@
 -- What ties the segments of a vector to its claim word, and what a hand knows of them.
-use Rattle.std.specs.Prelude.{◌≡◌, ℕ, ◌+◌, ◌<◌, ◌≤◌, List, Some, slice_get, length}
+use Rattle.std.specs.Prelude.{◌≡◌, ℕ, ◌<◌, List, Some, slice_get, length}
 use Rattle.std.specs.List.{Contains}
 use Rattle.seg_core.specs.Segment.{segment_start, segment_count, most_segments}
 use Rattle.tie_core.specs.Tie.{Tie, IsTied}
@@ -8,14 +8,13 @@ use Rattle.claim_core.specs.declared.role.RowAt.{RowAt}
 use Rattle.claim_core.specs.Word.{WordView}
 use Rattle.claim_core.specs.Gain.{IsTiedTo, IsEntryTo}
 use Rattle.claim_core.specs.Hand.{HandView}
-use Rattle.cell_core.specs.Slot.{ArePlain}
 use Rattle.cell_core.specs.Block.{BlockView, block_len, cell_at}
 use Rattle.cell_core.specs.Mould.{first_seat}
-use Rattle.table_core.specs.Table.{TableView, KeyView, IsKeyIn, IsBlockOf, IsLengthOf, IsPlainAt, IsTiedBlockOf, IsTiedBy}
+use Rattle.table_core.specs.Table.{TableView, KeyView, IsKeyIn, IsBlockOf, IsLengthOf, IsTiedBlockOf, IsTiedBy}
 use Rattle.grow_core.specs.Token.{place_in}
 use Rattle.grow_core.specs.Keys.{KeyRow, key_at, layout_in}
 
--- the tags of the entries from one segment on
+-- the tags of entries, in order
 abbrev pub TagRow : Type 0
 TagRow = List TagView
 
@@ -31,24 +30,15 @@ pub record IsTagOf (word : WordView) (segments : TableView) (cells : Tie) (segme
 abbrev pub IsTagFor : WordView → TableView → ℕ → TagView → Type 0
 IsTagFor word segments segment tag = (cells : Tie) × IsTagOf word segments cells segment tag
 
--- all entries from segment `count` on are tied, each by its tag, and their cells by the codes of one tie
-pub record AreTiedFrom (word : WordView) (segments : TableView) (cells : Tie) (tags : TagRow) (count : ℕ) : Type 0 where
+-- the entries of the first `n` segments are tied, each by its tag, and their cells by the codes of one tie
+pub record AreTiedBelow (word : WordView) (segments : TableView) (cells : Tie) (tags : TagRow) (n : ℕ) : Type 0 where
   pub cells_of : IsTiedTo word cells
-  pub all : count + length tags ≡ segment_count segments.layout
-  pub each : (i : ℕ) (tag : TagView) → slice_get tags i ≡ Some tag → IsTagOf word segments cells (count + i) tag
+  pub all : length tags ≡ n
+  pub each : (segment : ℕ) (tag : TagView) → slice_get tags segment ≡ Some tag → IsTagOf word segments cells segment tag
 
--- no entry of the first segments is tied, and no cell of their blocks
-abbrev pub ArePlainBelow : TableView → ℕ → Type 0
-ArePlainBelow table count = (k : ℕ) → k < count → IsPlainAt table k
-
--- the cells of the block are not tied if they were not
-abbrev pub StayPlain : BlockView → BlockView → Type 0
-StayPlain old new = ArePlain old.cells → ArePlain new.cells
-
--- the cells of a block are tied, if the segment was laid since the opening, as the entry says; otherwise they are not
-pub record IsBlockBy (segments : TableView) (laid segment : ℕ) (block : BlockView) : Type 0 where
-  pub tied : laid ≤ segment_start segments.layout segment → IsTiedBlockOf segments segment block
-  pub plain : segment_start segments.layout segment < laid → ArePlain block.cells
+-- the entries of all segments are
+abbrev pub AreTiedTo : WordView → TableView → Tie → TagRow → Type 0
+AreTiedTo word segments cells tags = AreTiedBelow word segments cells tags (segment_count segments.layout)
 
 -- the row of a segment that has this block: the cells of its places have seats in a row
 abbrev pub row_at : ℕ → ℕ → BlockView → RowAt
@@ -60,15 +50,15 @@ abbrev pub IsTiedBlock : BlockView → Type 0
 IsTiedBlock block = IsTied (cell_at block 0).tied
 
 -- A cell of the vector: the key is that of its segment, whose block this is, and the place is at this offset there
-pub record IsCellOf (segments : TableView) (laid : ℕ) (k : KeyView) (b : BlockView) (p i : ℕ) : Type 0 where
+pub record IsCellOf (segments : TableView) (k : KeyView) (b : BlockView) (p i : ℕ) : Type 0 where
   pub key : IsKeyIn segments k
   pub block : b ≡ k.block
   pub long : IsBlockOf segments.layout k.segment k.block
-  pub by : IsBlockBy segments laid k.segment k.block
+  pub by : IsTiedBlockOf segments k.segment k.block
   pub within : i < block_len k.block
   pub place : p ≡ place_in segments.layout k.segment i
 
--- of each segment whose key is in the row, the hand knows where the places stand, if their cells are tied
+-- of each segment whose key is in the row, the hand knows where the places stand, since their cells are tied
 abbrev pub KnowsRows : HandView → KeyRow → Type 0
 KnowsRows hand row =
     (segment : ℕ) (key : KeyView) → segment < most_segments → key_at row segment ≡ Some key → IsTiedBlock key.block

@@ -1,8 +1,7 @@
 -- The shared vector as callers see it, and what belongs to it.
 use Rattle.std.specs.Prelude.{◌≡◌, ℕ, ◌<◌, ◌≤◌, List, Option, Some, None, slice_get}
 use Rattle.std.specs.Coded.{coded_option}
-use base.Fml.{Lft}
-use base.Stored.{Coded, coded×, coded_ℕ, coded_list, coded_via}
+use base.Stored.{Coded, coded×, coded_list, coded_via}
 use mathlib.Core.List.{IsPrefix}
 use Rattle.claim_core.specs.Word.{WordView, word_coded, first_at}
 use Rattle.claim_core.specs.History.{value_cell, broken_cell}
@@ -10,36 +9,30 @@ use Rattle.claim_core.specs.Hand.{HandView, KeepsOwn}
 use Rattle.cell_core.specs.Block.{IsPlacedIn, IsSpoiltIn, IsBegunIn}
 use Rattle.cell_core.specs.Member.{MemberView}
 use Rattle.table_core.specs.Table.{TableView, table_coded, IsKeyIn, IsBlockOf}
-use Rattle.seg_core.specs.Segment.{segment_start, most_segments}
+use Rattle.seg_core.specs.Segment.{most_segments}
 use Rattle.tie_core.specs.Tie.{Tie}
 use Rattle.grow_core.specs.Keys.{KeyRow, key_at, mark_of}
-use Rattle.grow_core.specs.Ties.{TagRow, AreTiedFrom, ArePlainBelow}
-use Rattle.grow_core.specs.Parts.{AreWhole, AreBrokenIn, values_in, filled_in}
+use Rattle.grow_core.specs.Ties.{TagRow, AreTiedTo}
+use Rattle.grow_core.specs.Parts.{AreWhole, values_in, filled_in}
 use Rattle.grow_core.specs.Token.{PlacedView, SpoiltView, BegunView, place_in}
 
--- which vector it is: its claim word, with its limit and its base, and its segments; the list that it was opened from,
--- each member a value or broken (`None`); and the first place whose segment was laid since the opening
+-- which vector it is: its claim word, with its limit and its base, and its segments; and the list that it was opened
+-- from, each member a value or broken (`None`)
 pub record VectorView (T : Type 0) : Type 0 where
   pub word : WordView
   pub segments : TableView
   pub opened : List (Option T)
-  pub laid : ℕ
 
--- that of a word and segments, with what is known of the list, which brought this number of segments
-abbrev pub vector_of : {T : Type 0} → WordView → TableView → List (MemberView T) → ℕ → VectorView T
-vector_of word segments known count = record {
-  word = word;
-  segments = segments;
-  opened = values_in known;
-  laid = segment_start segments.layout count;
-}
+-- that of a word and segments, with what is known of the list
+abbrev pub vector_of : {T : Type 0} → WordView → TableView → List (MemberView T) → VectorView T
+vector_of word segments known = record { word = word; segments = segments; opened = values_in known }
 
 -- how that is stored
 abbrev pub vector_coded : {T : Type 0} → Coded T → Coded (VectorView T)
 vector_coded {T} c =
-    coded_via (coded× word_coded (coded× table_coded (coded× (coded_list (coded_option c)) coded_ℕ)))
-    (λ (v : VectorView T). (v.word, (v.segments, (v.opened, v.laid))))
-    (λ x y e i. record { word = (e i).0; segments = (e i).1.0; opened = (e i).1.1.0; laid = (e i).1.1.1 })
+    coded_via (coded× word_coded (coded× table_coded (coded_list (coded_option c))))
+    (λ (v : VectorView T). (v.word, (v.segments, v.opened)))
+    (λ x y e i. record { word = (e i).0; segments = (e i).1.0; opened = (e i).1.1 })
 
 -- the greatest size that it may have
 abbrev pub limit_of : {T : Type 0} → VectorView T → ℕ
@@ -52,11 +45,6 @@ layout_of vector = vector.segments.layout
 -- the size that it began with
 abbrev pub base_of : {T : Type 0} → VectorView T → ℕ
 base_of vector = vector.word.base
-
--- The place's segment was laid since the vector was opened, so the history tells what is done there. Of the segments of
--- the opened list it tells the claims alone
-abbrev pub IsLaid : {T : Type 0} → VectorView T → ℕ → Type 0
-IsLaid vector place = vector.laid ≤ place
 
 -- the list that it was opened from has this value at the place
 abbrev pub IsOpenedAt : {T : Type 0} → VectorView T → ℕ → T → Type 0
@@ -71,18 +59,15 @@ pub record BeginsAsOpened {T : Type 0} (vector : VectorView T) : Type 0 where
       → first_at vector.word place ≡ Some broken_cell
 
 -- what holds of a vector at all times: what is known of the list that it was opened from, by the keys of its first
--- segments; the row has no other key; the epoch of that list has ended; and the mark of the word and its hands has the
--- layout and the names of the segments, and says whether each member of that list has a value. The cells of those segments
--- are not tied, and all later entries are tied to the word
+-- segments; the row has no other key; the mark of the word and its hands has the layout and the names of the segments, and
+-- says whether each member of that list has a value; and all entries are tied to the word
 pub record IsShared {T : Type 0} (word : WordView) (segments : TableView) (keys : KeyRow)
-    (known : List (MemberView T)) (ended : Lft) (count : ℕ) (cells : Tie) (tags : TagRow) : Type 0 where
+    (known : List (MemberView T)) (count : ℕ) (cells : Tie) (tags : TagRow) : Type 0 where
   pub whole : AreWhole segments.layout segments.names keys known word.base word.limit count
-  pub broken : AreBrokenIn ended known
   pub mark : word.mark ≡ mark_of segments
   pub filled : word.filled ≡ filled_in (values_in known)
   pub none : (segment : ℕ) → segment < most_segments → count ≤ segment → key_at keys segment ≡ None
-  pub plain : ArePlainBelow segments count
-  pub tied : AreTiedFrom word segments cells tags count
+  pub tied : AreTiedTo word segments cells tags
 
 -- the hand belongs to the vector
 abbrev pub IsHandOf : {T : Type 0} → VectorView T → HandView → Type 0

@@ -2,12 +2,10 @@
 ghost use Rattle.std.specs.Prelude.{◌≡◌, ◌<◌, ◌≤◌, Some, None, IfSome, IsSome, slice_set};
 ghost use Rattle.seg_core.specs.Segment.{segment_start, segment_end, segment_count, segment_of, most_segments};
 ghost use Rattle.cell_core.specs.Block.{block_len, IsMemberAt, KeepsOtherCells};
-ghost use Rattle.cell_core.specs.Slot.{ArePlain};
-ghost use Rattle.table_core.specs.Table.{IsBlockOf, IsPlainAt, KeepsOtherBonds, KeepsOtherEntries};
+ghost use Rattle.table_core.specs.Table.{IsBlockOf, KeepsOtherEntries, RenewsEntry};
 ghost use Rattle.grow_core.specs.Keys.{AreKeys, HasBlock, IsBlockPut, key_at, mark_of};
 ghost use Rattle.grow_core.specs.Token.{place_in};
-ghost use Rattle.grow_core.specs.Parts.{HasFirstKeys, IsBrokenIn};
-ghost use Rattle.grow_core.specs.Ties.{StayPlain};
+ghost use Rattle.grow_core.specs.Parts.{HasFirstKeys, IsBrokenIn, RestagesCell, member_stage};
 
 use crate::keys::{Keys, key_of};
 use crate::ties::{CellBlock, SegmentTable};
@@ -90,12 +88,8 @@ pub(crate) fn take_block<T: Drop>(
     ensures within { place < segment_end table.old.layout result.0 }
     ensures block { HasBlock keys.now result.0 result.2.value }
     ensures length { IsBlockOf table.old.layout result.0 result.2.value }
-    ensures plain_cells { IsPlainAt table.old result.0 → ArePlain result.2.value.cells }
     ensures layout { table.new.layout ≡ table.old.layout }
     ensures others { KeepsOtherEntries table.old table.new result.0 }
-    ensures bonds { KeepsOtherBonds table.old table.new result.0 }
-    ensures plain { IsPlainAt table.new result.0 }
-    ensures none_lent { table.new.lent ≡ None }
 {
     let (segment, offset, key) = cell_of(table, keys, count, place);
     (segment, offset, table.detach(&key))
@@ -111,34 +105,29 @@ pub(crate) fn put_block<T: Drop>(
     requires within { segment < segment_count table.old.layout }
     requires small { segment < most_segments }
     requires length { IsBlockOf table.old.layout segment block.value }
-    requires plain_cells { ArePlain block.value.cells }
-    requires none_lent { table.old.lent ≡ None }
     ensures put { IsBlockPut table.new segment block.value keys.old keys.new }
     ensures layout { table.new.layout ≡ table.old.layout }
     ensures others { KeepsOtherEntries table.old table.new segment }
-    ensures bonds { KeepsOtherBonds table.old table.new segment }
-    ensures plain { IsPlainAt table.new segment }
 {
-    keys.set(segment, Some(table.attach_plain(segment, block)));
+    keys.set(segment, Some(table.attach(segment, block)));
 }
 
-// The entry of a segment is not set and not tied any more, and the row loses its key. A block that it had is dropped.
+// The entry of a segment is not set any more, and the row loses its key. A block that it had is dropped.
 pub(crate) fn clear_entry<T: Drop>(table: &mut SegmentTable<T>, keys: &mut Keys, segment: u32)
     requires within { segment < segment_count table.old.layout }
     requires small { segment < most_segments }
     ensures keys { keys.new ≡ slice_set keys.old segment None }
     ensures layout { table.new.layout ≡ table.old.layout }
     ensures others { KeepsOtherEntries table.old table.new segment }
-    ensures bonds { KeepsOtherBonds table.old table.new segment }
-    ensures plain { IsPlainAt table.new segment }
+    ensures another { RenewsEntry table.old table.new segment }
 {
     table.give_up(segment);
     keys.set(segment, None);
 }
 
 // Writes a value into the cell, or breaks it. It returns what is then known of the cell, and the value that
-// it held.
-#[tactic(auto, using(crate::proofs::PlainSegments::plain_written))]
+// it held. A cell that was fixed at a stage is then fixed at that of a filled cell, or of a broken one.
+#[tactic(auto, using(crate::proofs::Staged::restaged_value, crate::proofs::Staged::restaged_broken))]
 pub(crate) fn write<T>(
     block: &mut CellBlock<T>,
     offset: u64,
@@ -149,7 +138,7 @@ pub(crate) fn write<T>(
     ensures member { IsMemberAt block.new offset result.0 }
     ensures value { result.0.value ≡ value }
     ensures broken { IsBrokenIn epoch.now result.0 }
-    ensures plain { StayPlain block.old block.new }
+    ensures staged { RestagesCell block.old block.new offset (member_stage (Some result.0)) }
     ensures len { block_len block.new ≡ block_len block.old }
     ensures others { KeepsOtherCells block.old block.new offset }
 {

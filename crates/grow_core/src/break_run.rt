@@ -1,16 +1,15 @@
 //! Growths whose places are broken on purpose, and how the rest of a run is broken.
-ghost use Rattle.std.specs.Prelude.{◌≡◌, ◌+◌, ◌-◌, ◌<◌, ◌≤◌, IfOk, IfErr, IsErrAnd};
+ghost use Rattle.std.specs.Prelude.{◌+◌, ◌-◌, ◌<◌, ◌≤◌, IfOk, IfErr, IsErrAnd};
 ghost use Rattle.grow_core.specs.Vector.{IsHandOf, limit_of};
 ghost use Rattle.grow_core.specs.Keys.{OwnsPlacesOf};
 ghost use Rattle.grow_core.specs.BrokenRun.{AreKeptBroken};
 ghost use Rattle.grow_core.specs.Growth.{WonPlaces, Refuses, HasNoRoom, SaysFull, IsNotMoved};
-ghost use Rattle.grow_core.specs.Making.{StopsIn, IsTakenIn};
 ghost use Rattle.grow_core.specs.Logs.{LogsGrowth, LogsRefusal, AllBroken, break_steps};
-ghost use Rattle.grow_core.specs.Steps.{AddsOn, AreFresh, StopsWith, WorksIn};
+ghost use Rattle.grow_core.specs.Steps.{AddsOn, AreFresh, WorksIn};
 
 use crate::errors::{GrowError, Never};
 use crate::hand::Hand;
-use crate::token::{Found, Spoilt};
+use crate::token::Spoilt;
 use crate::vector::Shared;
 use claim_core::{Run, laws};
 use std::sync::Wait;
@@ -26,11 +25,12 @@ impl<T: Drop> Shared<T> {
         // Room that is missing by what the hand has seen is reported before memory is asked for.
         ensures full { HasNoRoom self.now n hand.old → IsErrAnd result SaysFull }
         // The history gets the claim of the run and the break of each place, or the event whose reply the refusal is.
-        ensures logs { IfOk result (LogsGrowth self.now AllBroken hand.old hand.new) }
-        ensures logs_refusal { IfErr result (LogsRefusal self.now n hand.old hand.new) }
+        ensures logs { IfOk result (LogsGrowth AllBroken hand.old hand.new) }
+        ensures logs_refusal { IfErr result (LogsRefusal n hand.old hand.new) }
     {
         let (run, ()) = self.claim_run(hand, n, ())?;
-        self.break_places(hand, run, &mut |_spoilt: Spoilt| {})
+        self.break_places(hand, run, &mut |_spoilt: Spoilt| {});
+        Ok(run)
     }
 
     /// Claims and breaks `n` places like `try_break_run`, and retries if another caller was first.
@@ -46,80 +46,59 @@ impl<T: Drop> Shared<T> {
         ensures full { HasNoRoom self.now n hand.old → IsErrAnd result SaysFull }
         ensures not_moved { IfErr result IsNotMoved }
         // The history gets the claim of the run and the break of each place, or the event whose reply the refusal is.
-        ensures logs { IfOk result (LogsGrowth self.now AllBroken hand.old hand.new) }
-        ensures logs_refusal { IfErr result (LogsRefusal self.now n hand.old hand.new) }
+        ensures logs { IfOk result (LogsGrowth AllBroken hand.old hand.new) }
+        ensures logs_refusal { IfErr result (LogsRefusal n hand.old hand.new) }
     {
         let (run, ()) = self.claim_again(rt, hand, n, ())?;
-        self.break_places(hand, run, &mut |_spoilt: Spoilt| {})
+        self.break_places(hand, run, &mut |_spoilt: Spoilt| {});
+        Ok(run)
     }
 
     // Breaks the places of a run of the hand's. The token of each goes to `keep`, in order.
-    fn break_places<K: FnMut(Spoilt)>(
-        &self,
-        hand: &mut Hand<T>,
-        run: Run,
-        keep: &mut K,
-    ) -> Result<Run, GrowError<T, (), Never>>
+    fn break_places<K: FnMut(Spoilt)>(&self, hand: &mut Hand<T>, run: Run, keep: &mut K)
         requires ours { IsHandOf self.now hand.old }
         requires owned { OwnsPlacesOf hand.old run }
         requires fresh { AreFresh hand.old run.from run.n }
         requires within { run.from + run.n ≤ limit_of self.now }
         requires callable { K.IsAlwaysCallable keep.old }
-        ensures run { IfOk result (λ broken. broken ≡ run) }
-        ensures kept { IfOk result
-            (λ _. AreKeptBroken K.step keep.old keep.new self.now run.from run.n) }
-        ensures stopped { IfErr result (StopsIn self.now run) }
+        ensures kept { AreKeptBroken K.step keep.old keep.new self.now run.from run.n }
         ensures works { WorksIn hand.old hand.new run.from run.n }
-        ensures adds { IfOk result (λ _. AddsOn self.now hand.old hand.new run run.from
-            (λ index. break_steps index run.from run.n)) }
-        // No place is taken whose segment was laid since the opening.
-        ensures leaves { IfErr result (StopsWith self.now hand.old hand.new run) }
+        ensures adds { AddsOn hand.old hand.new run (λ index. break_steps index run.from run.n) }
     {
-        match self.break_rest(hand, run, 0, keep) {
-            Ok(()) => Ok(run),
-            Err((place, found)) => Err(GrowError::Taken { place, found }),
-        }
+        self.break_rest(hand, run, 0, keep);
     }
 
     // Breaks the places of a run of the hand's from the one with this number on. The token of each goes to `keep`, in
-    // order. It stops at a place that was taken.
+    // order.
     pub(crate) fn break_rest<K: FnMut(Spoilt)>(
         &self,
         hand: &mut Hand<T>,
         run: Run,
         first: u64,
         keep: &mut K,
-    ) -> Result<(), (u64, Found<T>)>
+    )
         requires ours { IsHandOf self.now hand.old }
         requires owned { OwnsPlacesOf hand.old run }
         requires fresh { AreFresh hand.old (run.from + first) (run.n - first) }
         requires within { run.from + run.n ≤ limit_of self.now }
         requires not_past { first ≤ run.n }
         requires callable { K.IsAlwaysCallable keep.old }
-        ensures kept { IfOk result (λ _. AreKeptBroken K.step keep.old keep.new self.now
-            (run.from + first) (run.n - first)) }
-        ensures taken { IfErr result (λ (place, found). IsTakenIn self.now run place found) }
-        ensures after { IfErr result (λ (place, _). run.from + first ≤ place) }
+        ensures kept { AreKeptBroken K.step keep.old keep.new self.now (run.from + first) (run.n - first) }
         ensures works { WorksIn hand.old hand.new (run.from + first) (run.n - first) }
-        ensures adds { IfOk result (λ _. AddsOn self.now hand.old hand.new run (run.from + first)
-            (λ index. break_steps index (run.from + first) (run.n - first))) }
-        ensures opened { IfErr result (λ (place, _). place < self.now.laid) }
+        ensures adds { AddsOn hand.old hand.new run
+            (λ index. break_steps index (run.from + first) (run.n - first)) }
     {
         // For the proof: the vector's base is within its limit, and a run's places are those of its index.
         self.laws();
         laws::seen_runs_have_places();
         if first == run.n {
-            return Ok(());
+            return;
         }
         let end = run.from + run.n;
         let mut segment = self.find_segment(hand, run.from + first);
         for place in run.from + first..end {
             self.next_segment(hand, &mut segment, place);
-            match self.break_place(&mut hand.claims, &segment, place) {
-                Ok(spoilt) => keep(spoilt),
-                Err(found) => return Err((place, found)),
-            }
+            keep(self.break_place(&mut hand.claims, &segment, place));
         }
-        Ok(())
     }
 }

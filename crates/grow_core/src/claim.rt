@@ -33,7 +33,7 @@ impl<T: Drop> Shared<T> {
         // The run is the last that the hand has seen, and no place of it is known begun.
         ensures new_run { IfOk result (λ (run, _). IsNewRun hand.new run) }
         ensures logs { IfOk result (λ (run, _). LogsClaimed hand.old hand.new run) }
-        ensures logs_refusal { IfErr result (LogsRefusal self.now n hand.old hand.new) }
+        ensures logs_refusal { IfErr result (LogsRefusal n hand.old hand.new) }
     {
         // For the proof: the hand owns the run that it gains.
         laws::added_runs_are_owned();
@@ -69,7 +69,7 @@ impl<T: Drop> Shared<T> {
         // The run is the last that the hand has seen, and no place of it is known begun.
         ensures new_run { IfOk result (λ (run, _). IsNewRun hand.new run) }
         ensures logs { IfOk result (λ (run, _). LogsClaimed hand.old hand.new run) }
-        ensures logs_refusal { IfErr result (LogsRefusal self.now n hand.old hand.new) }
+        ensures logs_refusal { IfErr result (LogsRefusal n hand.old hand.new) }
         ensures not_moved { IfErr result IsNotMoved }
     {
         for _try in rt.forever() {
@@ -102,7 +102,7 @@ impl<T: Drop> Shared<T> {
         ensures unclaimed { IfErr result ClaimsNothing }
         ensures new_run { IfOk result (λ _. IsNewRun hand.new record { from = from; n = n }) }
         ensures logs { IfOk result (λ _. LogsRun hand.old hand.new record { from = from; n = n }) }
-        ensures logs_refusal { IfErr result (LogsRefusal self.now n hand.old hand.new) }
+        ensures logs_refusal { IfErr result (LogsRefusal n hand.old hand.new) }
     {
         // For the proof: the hand keeps its places, and owns those of the run that it gains.
         self.laws();

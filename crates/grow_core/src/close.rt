@@ -1,15 +1,15 @@
 //! How a vector is closed: it becomes an owner's list.
-ghost use Rattle.std.specs.Prelude.{◌≡◌, ◌+◌, ◌<◌, ◌≤◌, ℕ, min, Some, None, IfNone, IfSome, IsSome, IsTrue, IsFalse, length};
+ghost use Rattle.std.specs.Prelude.{◌≡◌, ◌+◌, ◌<◌, ◌≤◌, ℕ, min, Some, None, IfSome, IsSome, IsTrue, IsFalse, length};
 ghost use Rattle.claim_core.specs.Gain.{IsTiedTo};
 ghost use Rattle.claim_core.specs.Hand.{IsWholeHand, OwnsPlace, seen_size};
 ghost use Rattle.seg_core.specs.Segment.{HasPlace, IsLayout, segment_count, segment_end, segment_start, most_segments};
-ghost use Rattle.table_core.specs.Table.{IsBlockOf};
+ghost use Rattle.table_core.specs.Table.{IsBlockOf, IsKeyIn, IsLengthOf, IsTiedBlockOf};
 ghost use Rattle.grow_core.specs.Keys.{IsKeyAt, AreKeys, key_at, layout_in, mark_of};
 ghost use Rattle.grow_core.specs.Parts.{AreLong, HasFirstKeys};
 ghost use Rattle.grow_core.specs.Steps.{FindsMore};
-ghost use Rattle.grow_core.specs.Ties.{IsBlockBy, KnowsRow};
-ghost use Rattle.grow_core.specs.Vector.{IsHandOf, IsLaid, layout_of, limit_of};
-ghost use Rattle.grow_core.specs.Closing.{AreFixed, AreKnownFrom, AreOpenedKeys, AreToldBy, IsClosedFrom, IsListOfHistory, IsListSoFar, IsTiedByCells, KeepsValues};
+ghost use Rattle.grow_core.specs.Ties.{KnowsRow};
+ghost use Rattle.grow_core.specs.Vector.{IsHandOf, layout_of, limit_of};
+ghost use Rattle.grow_core.specs.Closing.{AreFixed, AreKnown, AreOpenedKeys, AreToldBy, IsClosedFrom, IsListOfHistory, IsListSoFar, IsTiedByCells, KeepsValues};
 
 use crate::blocks::{put_block, take_block};
 use crate::hand::Hand;
@@ -21,20 +21,51 @@ use crate::ties::{CellBlock, SegmentTable};
 use crate::vector::Shared;
 use book_core::laws::runs_tile;
 use cell_core::block::{Epoch, Row};
-use claim_core::{CellTag, Hand as ClaimHand, Mark, Word};
+use claim_core::{CellTag, EntryAt, Hand as ClaimHand, Mark, Word};
 use seg_core::Layout;
 use std::alloc::Global;
-use std::marker::Model;
+use std::marker::{Brand, Model};
 use table_core::Key;
 
 impl<T> Shared<T> {
+    // The hand learns where the places of a segment stand whose key is there, by one load, which logs nothing.
+    fn learn_row(&self, claims: &mut ClaimHand, key: &Key)
+        requires ours { IsHandOf self.now claims.old }
+        requires key { IsKeyIn self.now.segments key.now }
+        ensures tied { IsTiedBlockOf self.now.segments key.now.segment key.now.block }
+        ensures row { KnowsRow claims.new key.now.segment key.now.block }
+        ensures finds { FindsMore claims.old claims.new }
+        // No one else logs anything.
+        ensures alone { IsWholeHand claims.old → claims.new.log ≡ claims.old.log }
+    {
+        self.learn_entry::<Brand>(claims, key)
+    }
+
+    // The same, with the places of the entry as the caller picks them.
+    fn learn_entry<R: EntryAt>(&self, claims: &mut ClaimHand, key: &Key)
+        requires ours { IsHandOf self.now claims.old }
+        requires key { IsKeyIn self.now.segments key.now }
+        requires places { (R.from ≡ segment_start (layout_of self.now) key.now.segment)
+            × IsLengthOf (layout_of self.now) key.now.segment R.n }
+        ensures tied { IsTiedBlockOf self.now.segments key.now.segment key.now.block }
+        ensures row { KnowsRow claims.new key.now.segment key.now.block }
+        ensures finds { FindsMore claims.old claims.new }
+        // No one else logs anything.
+        ensures alone { IsWholeHand claims.old → claims.new.log ≡ claims.old.log }
+    {
+        let tag = self.entry_tag(key.segment());
+        let visit = claims.visit_scout::<R, Global>(&self.word, &tag);
+        let (_, visit) = self.table.known_for(key, visit);
+        claims.take_back_visit(visit);
+    }
+
     // The key of a segment if the hand has it.
     fn own_key(&self, hand: &Hand<T>, segment: u32) -> Option<Key>
         requires ours { IsHandOf self.now hand.now }
         requires within { segment < segment_count (layout_of self.now) }
         ensures key { IfSome result (IsKeyAt (mark_of self.now.segments) segment) }
         ensures long { IfSome result (λ key. IsBlockOf (layout_of self.now) segment key.block) }
-        ensures by { IfSome result (λ key. IsBlockBy self.now.segments self.now.laid segment key.block) }
+        ensures by { IfSome result (λ key. IsTiedBlockOf self.now.segments segment key.block) }
         ensures row { IfSome result (λ key. KnowsRow hand.now segment key.block) }
         ensures there { (place : ℕ) → OwnsPlace hand.now place
             → HasPlace (layout_of self.now) segment place → IsSome result }
@@ -51,35 +82,36 @@ impl<T> Shared<T> {
         }
     }
 
-    // The key of a segment if the opened list has it, or the hand.
-    #[tactic(auto, using(crate::proofs::LastKeys::laid_if_none, crate::proofs::LastKeys::if_none))]
-    fn known_key(&self, opened: &Keys, hand: &Hand<T>, segment: u32) -> Option<Key>
-        requires ours { IsHandOf self.now hand.now }
+    // The key of a segment if the opened list has it, or the hand. The hand then knows where the segment's cells are. A
+    // whole hand learns of no event, since nobody adds one.
+    fn known_key(&self, opened: &Keys, hand: &mut Hand<T>, segment: u32) -> Option<Key>
+        requires ours { IsHandOf self.now hand.old }
+        requires whole { IsWholeHand hand.old }
         requires within { segment < segment_count (layout_of self.now) }
         requires opened { AreOpenedKeys self.now opened.now }
         ensures key { IfSome result (IsKeyAt (mark_of self.now.segments) segment) }
         ensures long { IfSome result (λ key. IsBlockOf (layout_of self.now) segment key.block) }
-        ensures by { IfSome result (λ key. IsBlockBy self.now.segments self.now.laid segment key.block) }
-        ensures row { IfSome result (λ key. KnowsRow hand.now segment key.block) }
+        ensures by { IfSome result (λ key. IsTiedBlockOf self.now.segments segment key.block) }
+        ensures row { IfSome result (λ key. KnowsRow hand.new segment key.block) }
+        ensures finds { FindsMore hand.old hand.new }
+        ensures log { hand.new.log ≡ hand.old.log }
         ensures first { IsSome (key_at opened.now segment) → result ≡ key_at opened.now segment }
-        ensures there { (place : ℕ) → OwnsPlace hand.now place
+        ensures there { (place : ℕ) → OwnsPlace hand.old place
             → HasPlace (layout_of self.now) segment place → IsSome result }
-        ensures laid { IfNone result (IsLaid self.now (segment_start (layout_of self.now) segment)) }
     {
         // For the proof: the segments of the layout are few.
         let _table = &self.table;
         match key_of(opened, segment) {
             Some(key) => {
-                self.known_block(&key);
+                self.learn_row(&mut hand.claims, &key);
                 Some(key)
             }
             None => self.own_key(hand, segment),
         }
     }
 
-    // The same, or otherwise one found by a look at the table: the hand then knows where the segment's cells are. A
-    // whole hand learns of no event, since nobody adds one.
-    #[tactic(auto, using(crate::proofs::Works::finds_none, crate::proofs::LastKeys::by_tied, crate::proofs::KeyRows::none_is_none))]
+    // The same, or otherwise one found by a look at the table.
+    #[tactic(auto, using(crate::proofs::Works::finds_none, crate::proofs::KeyRows::none_is_none))]
     fn last_key(&self, opened: &Keys, hand: &mut Hand<T>, segment: u32) -> Option<Key>
         requires ours { IsHandOf self.now hand.old }
         requires whole { IsWholeHand hand.old }
@@ -87,7 +119,7 @@ impl<T> Shared<T> {
         requires opened { AreOpenedKeys self.now opened.now }
         ensures key { IfSome result (IsKeyAt (mark_of self.now.segments) segment) }
         ensures long { IfSome result (λ key. IsBlockOf (layout_of self.now) segment key.block) }
-        ensures by { IfSome result (λ key. IsBlockBy self.now.segments self.now.laid segment key.block) }
+        ensures by { IfSome result (λ key. IsTiedBlockOf self.now.segments segment key.block) }
         ensures row { IfSome result (λ key. KnowsRow hand.new segment key.block) }
         ensures finds { FindsMore hand.old hand.new }
         ensures log { hand.new.log ≡ hand.old.log }
@@ -116,14 +148,13 @@ impl<T> Shared<T> {
             → key_at result.0 s ≡ key_at opened.now s }
         ensures none { (s : ℕ) → s < most_segments → result.1 ≤ s → key_at result.0 s ≡ None }
         // The places of the list and those that were claimed since are in these segments.
-        ensures opened { self.now.laid ≤ segment_start (layout_of self.now) result.1 }
         ensures all { seen_size hand.old ≤ segment_start (layout_of self.now) result.1 }
-        ensures rows { AreKnownFrom 0 self.now.segments self.now.laid hand.new result.0 }
+        ensures rows { AreKnown self.now.segments hand.new result.0 }
         ensures finds { FindsMore hand.old hand.new }
         ensures log { hand.new.log ≡ hand.old.log }
     {
         let layout = self.table.layout();
-        // For the proof: its f is that of a layout; a whole hand owns every place; and the list lies in its segments.
+        // For the proof: its f is that of a layout; a whole hand owns every place; and the list lies below the limit.
         let _f = layout.f();
         hand.whole_laws();
         hand.laws();
@@ -148,15 +179,13 @@ fn end_in(layout: Layout, segment: u32, size: u64) -> u64
     size.min(layout.first(segment) + layout.len(segment))
 }
 
-// Learns of each cell of a segment how far it is, which is as the history's list says. It is no step. The cells of a
-// segment of the opened list stay as they are.
-#[tactic(auto, using(crate::proofs::Fixing::all_fixed, crate::proofs::Fixing::all_told, crate::proofs::Fixing::before_laid, crate::proofs::Fixing::none_to_fix, crate::proofs::Fixing::none_to_tell))]
+// Learns of each cell of a segment how far it is, which is as the history's list says. It is no step.
+#[tactic(auto, using(crate::proofs::Fixing::all_fixed, crate::proofs::Fixing::all_told))]
 fn fix_cells<T>(
     word: &Word<Global>,
     claims: &mut ClaimHand,
     cells: &CellTag,
     layout: Layout,
-    laid: u32,
     segment: u32,
     block: &mut CellBlock<T>,
 )
@@ -167,17 +196,14 @@ fn fix_cells<T>(
     requires mark { layout_in claims.old.of.mark ≡ layout }
     requires within { segment < segment_count layout }
     requires long { IsBlockOf layout segment block.old }
-    requires by { IsTiedByCells cells.now.tie layout (segment_start layout laid) segment block.old }
+    requires by { IsTiedByCells cells.now.tie block.old }
     requires row { KnowsRow claims.old segment block.old }
-    ensures fixed { AreFixed layout (segment_start layout laid) segment block.old block.new }
+    ensures fixed { AreFixed block.old block.new }
     ensures told { AreToldBy claims.old layout segment block.new }
     ensures kept { claims.new ≡ claims.old }
 {
     // For the proof: reading the length shows the type's invariant.
     let n = block.len();
-    if segment < laid {
-        return;
-    }
     let from = layout.first(segment);
     // For the proof: the cells have seats with numbers in a row.
     block.ties_laws();
@@ -190,14 +216,13 @@ fn fix_cells<T>(
 }
 
 // A vector whose first `len` places are members of a list already. Its word is open, and the hand that has all shares
-// is there, until no cell is tied any more.
+// is there, until no cell has a seat any more.
 #[derive(Drop)]
 struct Closing<T> {
     word: Word<Global>,
     claims: ClaimHand,
     cells: CellTag,
-    // The first segment that was laid since the vector was opened, and the first that is not closed yet.
-    laid: u32,
+    // The first segment that is not closed yet.
     next: u32,
     table: SegmentTable<T>,
     before: Keys,
@@ -216,7 +241,6 @@ struct Closing<T> {
 
 impl<T> Model for Closing<T> {
     ghost use Rattle.std.specs.Prelude.{◌≡◌};
-    ghost use Rattle.seg_core.specs.Segment.{segment_start};
     ghost use Rattle.grow_core.specs.Parts.{broken_count, values_in};
     ghost use Rattle.grow_core.specs.Closing.{ClosingView, closing_coded, IsClosing, IsStillOpen};
 
@@ -231,7 +255,6 @@ impl<T> Model for Closing<T> {
       size = c.size;
       layout = c.table.layout;
       mark = c.mark.numbers;
-      laid = segment_start c.table.layout c.laid;
       cells = c.cells.tie;
       hand = c.claims;
       next = c.next;
@@ -241,8 +264,8 @@ impl<T> Model for Closing<T> {
     ghost invariant = { λ c. IsClosing c.table.layout c.mark.numbers c.before c.table.names c.keys
         c.opened c.row c.epoch c.len c.limit c.count c.size
         × (c.broken ≡ broken_count (values_in c.row))
-        × IsStillOpen c.word c.claims c.cells.tie c.table
-        (segment_start c.table.layout c.laid) c.next c.count c.size c.keys c.row };
+        × IsStillOpen c.word c.claims c.cells.tie c.table.layout c.next c.count c.size c.keys
+        c.row };
 }
 
 impl<T: Drop> Closing<T> {
@@ -256,7 +279,6 @@ impl<T: Drop> Closing<T> {
         ensures size { result.size ≡ seen_size hand }
         ensures layout { result.layout ≡ layout_of vector }
         ensures mark { result.mark ≡ mark_of vector.segments }
-        ensures laid { result.laid ≡ vector.laid }
         ensures of { result.hand.of ≡ vector.word }
         ensures log { result.hand.log ≡ hand.log }
     {
@@ -267,7 +289,7 @@ impl<T: Drop> Closing<T> {
         let limit = vector.limit();
         let size = hand.seen();
         let alloc = vector.alloc;
-        let (word, table, laid, row, cells, before, count) = vector.take_apart_by(&mut hand);
+        let (word, table, row, cells, before, count) = vector.take_apart_by(&mut hand);
         let mark = Mark::of::<SegmentTable<T>, Segments>(&table);
         let Hand { claims, .. } = hand;
         let base = word.base();
@@ -275,7 +297,6 @@ impl<T: Drop> Closing<T> {
             word,
             claims,
             cells,
-            laid,
             next: 0,
             table,
             keys: keys_again(&before),
@@ -323,7 +344,6 @@ impl<T: Drop> Closing<T> {
             &mut self.claims,
             &self.cells,
             self.table.layout(),
-            self.laid,
             segment,
             &mut block,
         );
@@ -338,7 +358,6 @@ impl<T: Drop> Closing<T> {
             &mut self.row,
             &self.epoch,
         );
-        block.untie_now(&self.row, self.len - offset);
         put_block(&mut self.table, &mut self.keys, segment, block);
         self.len = end;
         self.next = segment + 1;
@@ -352,14 +371,15 @@ impl<T: Drop> Closing<T> {
         self.next < self.count
     }
 
-    // The cells of the next segment, which lies past the size, are not tied any more. They are empty.
-    fn untie_segment(&mut self)
+    // The cells of the next segment, which lies past the size, have no seats any more. They are empty.
+    fn fix_segment(&mut self)
         requires all { length self.old.members ≡ self.old.size }
         requires more { self.old.next < self.old.count }
         ensures { self.new ≡ record self.old { next = self.old.next + 1 } }
     {
-        // For the proof: the hand has seen all that was claimed, and owns it.
+        // For the proof: the hand has seen all that was claimed, and the list of a history has those places.
         self.claims.whole_laws();
+        runs_tile();
         let Some(key) = key_of(&self.keys, self.next) else {
             unreachable!()
         };
@@ -369,11 +389,9 @@ impl<T: Drop> Closing<T> {
             &mut self.claims,
             &self.cells,
             self.table.layout(),
-            self.laid,
             self.next,
             &mut block,
         );
-        block.untie_now(&Row::new(), 0);
         put_block(&mut self.table, &mut self.keys, self.next, block);
         self.next += 1;
     }
@@ -387,7 +405,7 @@ impl<T: Drop> Closing<T> {
         ensures layout { result.layout ≡ self.layout }
         ensures opened { KeepsValues self.opened result.members }
         ensures closed { result.closed ≡ Some self.mark }
-        ensures history { IsListSoFar self.hand.of self.laid self.hand.log result.members }
+        ensures history { IsListSoFar self.hand.of self.hand.log result.members }
     {
         let Closing {
             word,
@@ -428,7 +446,7 @@ impl<T: Drop> Shared<T> {
     /// is that of the installed segments.
     ///
     /// It is the list of the history that the hand has seen, which is the whole one.
-    #[tactic(auto, using(crate::proofs::Unties::list_of_history))]
+    #[tactic(auto, using(crate::proofs::Closed::list_of_history))]
     pub fn into_parts(self, hand: Hand<T>) -> Parts<T>
         requires ours { IsHandOf self hand }
         requires whole { IsWholeHand hand }
@@ -447,7 +465,7 @@ impl<T: Drop> Shared<T> {
             closing.settle_segment();
         }
         while closing.has_more() {
-            closing.untie_segment();
+            closing.fix_segment();
         }
         closing.into_parts()
     }

@@ -1,16 +1,15 @@
 //! Growths by copies: of the values of a slice, or of one value.
-ghost use Rattle.std.specs.Prelude.{◌≡◌, ◌+◌, ◌-◌, ◌%◌, ◌<◌, ◌≤◌, [], IfOk, IfErr, IsErrAnd, length, replicate, take};
+ghost use Rattle.std.specs.Prelude.{◌≡◌, ◌+◌, ◌-◌, ◌%◌, ◌<◌, ◌≤◌, [], IfOk, IfErr, IsErrAnd, length, replicate};
 ghost use Rattle.seg_core.specs.Segment.{most_places};
 ghost use Rattle.cell_core.specs.Laid.{word_cells};
-ghost use Rattle.grow_core.specs.Vector.{IsHandOf, IsLaid, limit_of};
+ghost use Rattle.grow_core.specs.Vector.{IsHandOf, limit_of};
 ghost use Rattle.grow_core.specs.Grown.{IsGrownOf, values_of};
 ghost use Rattle.grow_core.specs.Keys.{OwnsPlacesOf};
 ghost use Rattle.grow_core.specs.Segment.{IsSegmentOf, KnowsSegment};
 ghost use Rattle.grow_core.specs.Stretch.{IsStretchOf, TakesFrom, values_from};
-ghost use Rattle.grow_core.specs.Growth.{WonRun, Refuses, HasNoRoom, SaysFull, IsNotMoved, IsFoundAt};
-ghost use Rattle.grow_core.specs.Making.{StopsIn};
+ghost use Rattle.grow_core.specs.Growth.{WonRun, Refuses, HasNoRoom, SaysFull, IsNotMoved};
 ghost use Rattle.grow_core.specs.Logs.{LogsGrowth, LogsRefusal, AllFilled, fill_steps};
-ghost use Rattle.grow_core.specs.Steps.{AddsAlong, AddsOn, AreFresh, IsUntouched, StopsWith, WorksIn};
+ghost use Rattle.grow_core.specs.Steps.{AddsAlong, AddsOn, AreFresh, WorksIn};
 
 use crate::errors::{GrowError, Never};
 use crate::fill::Segment;
@@ -18,7 +17,6 @@ use crate::grown::Grown;
 use crate::hand::Hand;
 use crate::source::{Copies, FromSlice, Source};
 use crate::stretch::Stretch;
-use crate::token::Found;
 use crate::vector::Shared;
 use cell_core::block::{Kind, RunPen};
 use claim_core::{Hand as ClaimHand, Run, laws};
@@ -41,13 +39,13 @@ impl<T: Copy> Shared<T> {
         ensures full { HasNoRoom self.now (length values.now) hand.old → IsErrAnd result SaysFull }
         // The history gets the claim of the run and the fill of each place, or the event whose reply the refusal is.
         ensures logs { IfOk result
-            (λ grown. LogsGrowth self.now AllFilled hand.old hand.new grown.run) }
+            (λ grown. LogsGrowth AllFilled hand.old hand.new grown.run) }
         ensures logs_refusal { IfErr result
-            (LogsRefusal self.now (length values.now) hand.old hand.new) }
+            (LogsRefusal (length values.now) hand.old hand.new) }
     {
         let n = values.len() as u64;
         let (run, ()) = self.claim_run(hand, n, ())?;
-        self.copy_run(hand, run, &FromSlice { slice: values })
+        Ok(self.copy_run(hand, run, &FromSlice { slice: values }))
     }
 
     /// Appends copies of the values like `try_grow_from`, and retries if another caller was first.
@@ -65,13 +63,13 @@ impl<T: Copy> Shared<T> {
         ensures not_moved { IfErr result IsNotMoved }
         // The history gets the claim of the run and the fill of each place, or the event whose reply the refusal is.
         ensures logs { IfOk result
-            (λ grown. LogsGrowth self.now AllFilled hand.old hand.new grown.run) }
+            (λ grown. LogsGrowth AllFilled hand.old hand.new grown.run) }
         ensures logs_refusal { IfErr result
-            (LogsRefusal self.now (length values.now) hand.old hand.new) }
+            (LogsRefusal (length values.now) hand.old hand.new) }
     {
         let n = values.len() as u64;
         let (run, ()) = self.claim_again(rt, hand, n, ())?;
-        self.copy_run(hand, run, &FromSlice { slice: values })
+        Ok(self.copy_run(hand, run, &FromSlice { slice: values }))
     }
 
     /// Appends `n` copies of the value in one run, like `try_grow_from`.
@@ -88,11 +86,11 @@ impl<T: Copy> Shared<T> {
         ensures full { HasNoRoom self.now n hand.old → IsErrAnd result SaysFull }
         // The history gets the claim of the run and the fill of each place, or the event whose reply the refusal is.
         ensures logs { IfOk result
-            (λ grown. LogsGrowth self.now AllFilled hand.old hand.new grown.run) }
-        ensures logs_refusal { IfErr result (LogsRefusal self.now n hand.old hand.new) }
+            (λ grown. LogsGrowth AllFilled hand.old hand.new grown.run) }
+        ensures logs_refusal { IfErr result (LogsRefusal n hand.old hand.new) }
     {
         let (run, ()) = self.claim_run(hand, n, ())?;
-        self.copy_run(hand, run, &Copies { n, value })
+        Ok(self.copy_run(hand, run, &Copies { n, value }))
     }
 
     /// Appends `n` copies of the value like `try_grow_copies`, and retries if another caller was first.
@@ -110,11 +108,11 @@ impl<T: Copy> Shared<T> {
         ensures not_moved { IfErr result IsNotMoved }
         // The history gets the claim of the run and the fill of each place, or the event whose reply the refusal is.
         ensures logs { IfOk result
-            (λ grown. LogsGrowth self.now AllFilled hand.old hand.new grown.run) }
-        ensures logs_refusal { IfErr result (LogsRefusal self.now n hand.old hand.new) }
+            (λ grown. LogsGrowth AllFilled hand.old hand.new grown.run) }
+        ensures logs_refusal { IfErr result (LogsRefusal n hand.old hand.new) }
     {
         let (run, ()) = self.claim_again(rt, hand, n, ())?;
-        self.copy_run(hand, run, &Copies { n, value })
+        Ok(self.copy_run(hand, run, &Copies { n, value }))
     }
 }
 
@@ -135,70 +133,56 @@ impl<T: Drop> Shared<T> {
             → IsErrAnd result SaysFull }
         // The history gets the claim of the run and the fill of each place, or the event whose reply the refusal is.
         ensures logs { IfOk result
-            (λ grown. LogsGrowth self.now AllFilled hand.old hand.new grown.run) }
+            (λ grown. LogsGrowth AllFilled hand.old hand.new grown.run) }
         ensures logs_refusal { IfErr result
-            (LogsRefusal self.now (length (S.values source.now)) hand.old hand.new) }
+            (LogsRefusal (length (S.values source.now)) hand.old hand.new) }
     {
         let (run, ()) = self.claim_run(hand, source.len(), ())?;
-        self.copy_run(hand, run, source)
+        Ok(self.copy_run(hand, run, source))
     }
 
-    // Fills the places of a run of the hand's with the values of the source. It stops at a place that was taken.
-    fn copy_run<S: Source<T>>(
-        &self,
-        hand: &mut Hand<T>,
-        run: Run,
-        source: &S,
-    ) -> Result<Grown<T>, GrowError<T, (), Never>>
+    // Fills the places of a run of the hand's with the values of the source.
+    fn copy_run<S: Source<T>>(&self, hand: &mut Hand<T>, run: Run, source: &S) -> Grown<T>
         requires ours { IsHandOf self.now hand.old }
         requires owned { OwnsPlacesOf hand.old run }
         requires fresh { AreFresh hand.old run.from run.n }
         requires within { run.from + run.n ≤ limit_of self.now }
         requires values { length (S.values source.now) ≡ run.n }
-        ensures run { IfOk result (λ grown. grown.run ≡ run) }
-        ensures tokens { IfOk result (IsGrownOf self.now) }
-        ensures values { IfOk result (λ grown. values_of grown ≡ S.values source.now) }
-        ensures stopped { IfErr result (StopsIn self.now run) }
+        ensures run { result.run ≡ run }
+        ensures tokens { IsGrownOf self.now result }
+        ensures values { values_of result ≡ S.values source.now }
         ensures works { WorksIn hand.old hand.new run.from run.n }
-        ensures adds { IfOk result (λ _. AddsOn self.now hand.old hand.new run run.from
-            (λ index. fill_steps index run.from run.n)) }
-        // No place is taken whose segment was laid since the opening.
-        ensures leaves { IfErr result (StopsWith self.now hand.old hand.new run) }
+        ensures adds { AddsOn hand.old hand.new run (λ index. fill_steps index run.from run.n) }
     {
         // For the proof: the vector's base is within its limit, and a run's places are those of its index.
         self.laws();
         laws::seen_runs_have_places();
         let mut filled = self.no_places();
         if run.n == 0 {
-            return Ok(self.grown(run, filled));
+            return self.grown(run, filled);
         }
         let mut segment = self.find_segment(hand, run.from);
         let mut done = 0;
         while done < run.n {
             let place = run.from + done;
             self.next_segment(hand, &mut segment, place);
-            match self.copy_next(
+            let stretch = self.copy_next(
                 &mut hand.claims,
                 &segment,
                 place,
                 done,
                 run.n - done,
                 source,
-            ) {
-                Ok(stretch) => {
-                    done += stretch.n;
-                    filled = self.know(filled, stretch);
-                }
-                Err(found) => return Err(GrowError::Taken { place, found }),
-            }
+            );
+            done += stretch.n;
+            filled = self.know(filled, stretch);
         }
-        Ok(self.grown(run, filled))
+        self.grown(run, filled)
     }
 
     // Fills places of the segment with values of the source from this number on, `left` of them at most: a run that
-    // begins at this place, or this place alone.
+    // begins at this place.
     #[inline(always)]
-    #[tactic(auto, using(crate::proofs::PlainSegments::plain_cells))]
     fn copy_next<S: Source<T>>(
         &self,
         claims: &mut ClaimHand,
@@ -207,7 +191,7 @@ impl<T: Drop> Shared<T> {
         first: u64,
         left: u64,
         source: &S,
-    ) -> Result<Stretch<T>, Found<T>>
+    ) -> Stretch<T>
         requires ours { IsHandOf self.now claims.old }
         requires owned { OwnsPlacesOf claims.old record { from = place; n = left } }
         requires fresh { AreFresh claims.old place left }
@@ -218,36 +202,18 @@ impl<T: Drop> Shared<T> {
         requires some { 0 < left }
         requires values { first + left ≤ length (S.values source.now) }
         requires small { first + left ≤ most_places }
-        ensures filled { IfOk result (TakesFrom self.now place (S.values source.now) first left) }
-        ensures within { IfOk result (λ stretch. place + stretch.n ≤ segment.now.end) }
-        ensures found { IfErr result (IsFoundAt self.now place) }
-        ensures opened { IfErr result (λ _. place < self.now.laid) }
-        ensures works { IfOk result (λ stretch. WorksIn claims.old claims.new place stretch.n) }
-        ensures adds { IfOk result (λ stretch.
-            AddsAlong self.now claims.old claims.new place stretch.n
-            (λ index. fill_steps index place stretch.n)) }
-        ensures untouched { IfErr result (λ _. IsUntouched claims.old claims.new) }
+        ensures filled { TakesFrom self.now place (S.values source.now) first left result }
+        ensures within { place + result.n ≤ segment.now.end }
+        ensures works { WorksIn claims.old claims.new place result.n }
+        ensures adds { AddsAlong claims.old claims.new place result.n
+            (λ index. fill_steps index place result.n) }
     {
         let offset = place - segment.from;
         let n = segment.block.longest_run(offset).min(left);
-        if self.is_laid(segment.key.segment()) {
-            return Ok(self.copy_run_tied(claims, segment, place, n, first, source));
-        }
-        let Some(pen) = segment.block.begin_run_plain(offset, n) else {
-            return self.fill_alone(claims, segment, place, source.value(first));
-        };
-        let row = write_from(pen, n, first, source).publish();
-        let stretch = Stretch {
-            key: segment.key.again(),
-            offset,
-            n,
-            row,
-        };
-        Ok(stretch)
+        self.copy_run_tied(claims, segment, place, n, first, source)
     }
 
-    // Fills `n` such places, which were laid since the opening and whose states are in one word, with values of the source
-    // from this number on.
+    // Fills `n` such places, whose states are in one word, with values of the source from this number on.
     #[inline(always)]
     fn copy_run_tied<S: Source<T>>(
         &self,
@@ -259,7 +225,6 @@ impl<T: Drop> Shared<T> {
         source: &S,
     ) -> Stretch<T>
         requires ours { IsHandOf self.now claims.old }
-        requires laid { IsLaid self.now place }
         requires owned { OwnsPlacesOf claims.old record { from = place; n = n } }
         requires fresh { AreFresh claims.old place n }
         requires segment { IsSegmentOf self.now segment.now }
@@ -274,7 +239,7 @@ impl<T: Drop> Shared<T> {
             result }
         ensures n { result.n ≡ n }
         ensures works { WorksIn claims.old claims.new place result.n }
-        ensures adds { AddsAlong self.now claims.old claims.new place result.n
+        ensures adds { AddsAlong claims.old claims.new place result.n
             (λ index. fill_steps index place result.n) }
     {
         // For the proof: the hand has seen the runs that it owns.

@@ -22,7 +22,7 @@ pub enum GrowError<T, V, E> {
     /// A value could not be made. The run is claimed: its first places have the values that were
     /// made, and the others are broken.
     Refused { run: Run, made: Grown<T>, cause: E },
-    /// A place of the run was not empty. The run is claimed, and the values that were not placed are dropped.
+    /// A place of the run was not empty. No call returns this.
     Taken { place: u64, found: Found<T> },
 }
 

@@ -1,27 +1,21 @@
 // How a growth fills and breaks the places that it won, segment by segment.
-ghost use Rattle.std.specs.Prelude.{◌≡◌, ◌+◌, ◌<◌, ◌≤◌, [], ◌∷◌, IfOk, IfErr, IsTrue, IsFalse};
+ghost use Rattle.std.specs.Prelude.{◌≡◌, ◌+◌, ◌<◌, ◌≤◌};
 ghost use Rattle.std.specs.Vec.Iter.{into_iter_len};
 ghost use Rattle.claim_core.specs.Hand.{OwnsPlace};
 ghost use Rattle.claim_core.specs.History.{break_event, fill_event};
-ghost use Rattle.cell_core.specs.Block.{block_len};
-ghost use Rattle.cell_core.specs.Shown.{IsFoundIn, IsNotEmpty};
-ghost use Rattle.table_core.specs.Table.{IsKeyIn, IsBlockOf};
-ghost use Rattle.grow_core.specs.Token.{place_in};
-ghost use Rattle.grow_core.specs.Vector.{IsHandOf, IsLaid, IsPlacedOf, IsSpoiltOf, layout_of, limit_of};
+ghost use Rattle.grow_core.specs.Vector.{IsHandOf, IsPlacedOf, IsSpoiltOf, limit_of};
 ghost use Rattle.grow_core.specs.Segment.{IsSegmentOf, KnowsSegment};
-ghost use Rattle.grow_core.specs.Growth.{IsFoundAt};
 ghost use Rattle.grow_core.specs.Logs.{fill_steps};
-ghost use Rattle.grow_core.specs.Steps.{AddsAlong, AddsAt, AreFresh, IsUntouched, WorksIn};
-ghost use Rattle.grow_core.specs.Stretch.{IsCounted, IsStretchOf, Takes};
+ghost use Rattle.grow_core.specs.Steps.{AddsAlong, AddsAt, AreFresh, WorksIn};
+ghost use Rattle.grow_core.specs.Stretch.{IsCounted, Takes};
 ghost use Rattle.grow_core.specs.Keys.{OwnsPlacesOf};
-ghost use Rattle.grow_core.specs.Ties.{IsBlockBy, IsCellOf, KnowsRow};
+ghost use Rattle.grow_core.specs.Ties.{IsCellOf, KnowsRow};
 
 use crate::hand::Hand;
-use crate::stretch::{Stretch, publish};
+use crate::stretch::Stretch;
 use crate::ties::CellBlock;
-use crate::token::{BegunPlace, Found, Placed, Spoilt};
+use crate::token::{Placed, Spoilt};
 use crate::vector::Shared;
-use cell_core::block;
 use claim_core::Hand as ClaimHand;
 use std::vec::IntoIter;
 use table_core::Key;
@@ -94,7 +88,7 @@ impl<T: Drop> Shared<T> {
         segment: &Segment<'_, T>,
         place: u64,
         value: T,
-    ) -> Result<Placed<T>, Found<T>>
+    ) -> Placed<T>
         requires ours { IsHandOf self.now claims.old }
         requires owned { OwnsPlace claims.old place }
         requires fresh { AreFresh claims.old place 1 }
@@ -102,41 +96,27 @@ impl<T: Drop> Shared<T> {
         requires row { KnowsSegment claims.old segment.now }
         requires from { segment.now.from ≤ place }
         requires before { place < segment.now.end }
-        ensures token { IfOk result (IsPlacedOf self.now) }
-        ensures here { IfOk result (λ placed. placed.place ≡ place) }
-        ensures value { IfOk result (λ placed. placed.value ≡ value) }
-        ensures found { IfErr result (IsFoundAt self.now place) }
-        // A place whose segment was laid since the opening is never taken.
-        ensures opened { IfErr result (λ _. place < self.now.laid) }
+        ensures token { IsPlacedOf self.now result }
+        ensures here { result.place ≡ place }
+        ensures value { result.value ≡ value }
         ensures works { WorksIn claims.old claims.new place 1 }
-        ensures adds { AddsAt self.now claims.old claims.new place (λ index. fill_event index place) }
-        // A place that was taken is left as it is.
-        ensures untouched { IfErr result (λ _. IsUntouched claims.old claims.new) }
+        ensures adds { AddsAt claims.old claims.new place (λ index. fill_event index place) }
     {
         let key = segment.key.again();
-        let laid = self.is_laid(key.segment());
-        self.fill_cell(
-            claims,
-            segment.block,
-            key,
-            place,
-            place - segment.from,
-            laid,
-            value,
-        )
+        let offset = place - segment.from;
+        self.fill_cell(claims, segment.block, key, place, offset, value)
     }
 
-    // Fills places of the segment, which are the hand's own, with the next values: a run that begins at this place, or this
-    // place alone. Returns the values that are left.
+    // Fills places of the segment, which are the hand's own, with the next values: a run that begins at this place. Returns
+    // the values that are left.
     #[inline(always)]
-    #[tactic(auto, using(crate::proofs::PlainSegments::plain_cells))]
     pub(crate) fn fill_next(
         &self,
         claims: &mut ClaimHand,
         segment: &Segment<'_, T>,
         place: u64,
         values: IntoIter<T>,
-    ) -> Result<(Stretch<T>, IntoIter<T>), Found<T>>
+    ) -> (Stretch<T>, IntoIter<T>)
         requires ours { IsHandOf self.now claims.old }
         requires owned { OwnsPlacesOf claims.old record { from = place; n = into_iter_len values } }
         requires fresh { AreFresh claims.old place (into_iter_len values) }
@@ -146,75 +126,25 @@ impl<T: Drop> Shared<T> {
         requires before { place < segment.now.end }
         requires some { 0 < into_iter_len values }
         requires counted { IsCounted values }
-        ensures filled { IfOk result (λ (stretch, rest). Takes self.now place values rest stretch) }
-        ensures within { IfOk result (λ (stretch, _). place + stretch.n ≤ segment.now.end) }
-        ensures found { IfErr result (IsFoundAt self.now place) }
-        ensures opened { IfErr result (λ _. place < self.now.laid) }
-        ensures works { IfOk result (λ (stretch, _).
-            WorksIn claims.old claims.new place stretch.n) }
-        ensures adds { IfOk result (λ (stretch, _).
-            AddsAlong self.now claims.old claims.new place stretch.n
-            (λ index. fill_steps index place stretch.n)) }
-        ensures untouched { IfErr result (λ _. IsUntouched claims.old claims.new) }
+        ensures filled { Takes self.now place values result.1 result.0 }
+        ensures within { place + result.0.n ≤ segment.now.end }
+        ensures works { WorksIn claims.old claims.new place result.0.n }
+        ensures adds { AddsAlong claims.old claims.new place result.0.n
+            (λ index. fill_steps index place result.0.n) }
     {
         let offset = place - segment.from;
         let n = segment.block.longest_run(offset).min(values.len() as u64);
-        if self.is_laid(segment.key.segment()) {
-            return Ok(self.fill_run_tied(claims, segment, place, n, values));
-        }
-        let Some(pen) = segment.block.begin_run_plain(offset, n) else {
-            let mut rest = values;
-            let Some(value) = rest.next() else {
-                unreachable!()
-            };
-            return Ok((self.fill_alone(claims, segment, place, value)?, rest));
-        };
-        let (row, rest) = publish(pen, n, values);
-        let stretch = Stretch {
-            key: segment.key.again(),
-            offset,
-            n,
-            row,
-        };
-        Ok((stretch, rest))
-    }
-
-    // Fills this place of the segment, which is the hand's own, with the value.
-    #[cold]
-    pub(crate) fn fill_alone(
-        &self,
-        claims: &mut ClaimHand,
-        segment: &Segment<'_, T>,
-        place: u64,
-        value: T,
-    ) -> Result<Stretch<T>, Found<T>>
-        requires ours { IsHandOf self.now claims.old }
-        requires owned { OwnsPlace claims.old place }
-        requires fresh { AreFresh claims.old place 1 }
-        requires segment { IsSegmentOf self.now segment.now }
-        requires row { KnowsSegment claims.old segment.now }
-        requires from { segment.now.from ≤ place }
-        requires before { place < segment.now.end }
-        ensures filled { IfOk result (IsStretchOf self.now place (value ∷ [])) }
-        ensures found { IfErr result (IsFoundAt self.now place) }
-        ensures opened { IfErr result (λ _. place < self.now.laid) }
-        ensures works { WorksIn claims.old claims.new place 1 }
-        ensures adds { AddsAt self.now claims.old claims.new place (λ index. fill_event index place) }
-        // A place that was taken is left as it is.
-        ensures untouched { IfErr result (λ _. IsUntouched claims.old claims.new) }
-    {
-        let placed = self.fill(claims, segment, place, value)?;
-        Ok(self.stretch_of(placed))
+        self.fill_run_tied(claims, segment, place, n, values)
     }
 
     // Breaks a place of the segment, which is the hand's own.
-    #[tactic(auto, using(crate::proofs::Cells::small_cell, crate::proofs::Works::works_idle, crate::proofs::TiedCells::adds_nothing_at))]
+    #[tactic(auto, using(crate::proofs::Cells::small_cell))]
     pub(crate) fn break_place(
         &self,
         claims: &mut ClaimHand,
         segment: &Segment<'_, T>,
         place: u64,
-    ) -> Result<Spoilt, Found<T>>
+    ) -> Spoilt
         requires ours { IsHandOf self.now claims.old }
         requires owned { OwnsPlace claims.old place }
         requires fresh { AreFresh claims.old place 1 }
@@ -222,32 +152,20 @@ impl<T: Drop> Shared<T> {
         requires row { KnowsSegment claims.old segment.now }
         requires from { segment.now.from ≤ place }
         requires before { place < segment.now.end }
-        ensures token { IfOk result (IsSpoiltOf self.now) }
-        ensures here { IfOk result (λ spoilt. spoilt.place ≡ place) }
-        ensures found { IfErr result (IsFoundAt self.now place) }
-        ensures opened { IfErr result (λ _. place < self.now.laid) }
+        ensures token { IsSpoiltOf self.now result }
+        ensures here { result.place ≡ place }
         ensures works { WorksIn claims.old claims.new place 1 }
-        ensures adds { AddsAt self.now claims.old claims.new place (λ index. break_event index place) }
+        ensures adds { AddsAt claims.old claims.new place (λ index. break_event index place) }
     {
         let key = segment.key.again();
         let offset = place - segment.from;
-        if self.is_laid(key.segment()) {
-            let cell = self.break_tied(claims, segment.block, &key, place, offset);
-            return Ok(Spoilt { key, cell });
-        }
-        match segment.block.begin_plain(offset) {
-            Ok(pen) => Ok(Spoilt {
-                key,
-                cell: pen.spoil(),
-            }),
-            Err(found) => Err(self.found(key, offset, found)),
-        }
+        let cell = self.break_tied(claims, segment.block, &key, place, offset);
+        Spoilt { key, cell }
     }
 
-    // Fills a cell of the segment that has this key, which is a place of the hand's own, with the value. `laid` says whether
-    // the segment was laid since the vector was opened.
+    // Fills a cell of the segment that has this key, which is a place of the hand's own, with the value.
     #[inline(always)]
-    #[tactic(auto, using(crate::proofs::Cells::small_cell, crate::proofs::Works::works_idle, crate::proofs::TiedCells::adds_nothing_at))]
+    #[tactic(auto, using(crate::proofs::Cells::small_cell))]
     pub(crate) fn fill_cell(
         &self,
         claims: &mut ClaimHand,
@@ -255,57 +173,20 @@ impl<T: Drop> Shared<T> {
         key: Key,
         place: u64,
         offset: u64,
-        laid: bool,
         value: T,
-    ) -> Result<Placed<T>, Found<T>>
+    ) -> Placed<T>
         requires ours { IsHandOf self.now claims.old }
         requires owned { OwnsPlace claims.old place }
         requires fresh { AreFresh claims.old place 1 }
-        requires laid { IsTrue laid → IsLaid self.now place }
-        requires opened { IsFalse laid → place < self.now.laid }
-        requires cell { IsCellOf self.now.segments self.now.laid key block.now place offset }
+        requires cell { IsCellOf self.now.segments key block.now place offset }
         requires row { KnowsRow claims.old key.segment block.now }
-        ensures token { IfOk result (IsPlacedOf self.now) }
-        ensures here { IfOk result (λ placed. placed.place ≡ place) }
-        ensures value { IfOk result (λ placed. placed.value ≡ value) }
-        ensures found { IfErr result (IsFoundAt self.now place) }
-        ensures opened { IfErr result (λ _. place < self.now.laid) }
+        ensures token { IsPlacedOf self.now result }
+        ensures here { result.place ≡ place }
+        ensures value { result.value ≡ value }
         ensures works { WorksIn claims.old claims.new place 1 }
-        ensures adds { AddsAt self.now claims.old claims.new place (λ index. fill_event index place) }
-        // A place that was taken is left as it is.
-        ensures untouched { IfErr result (λ _. IsUntouched claims.old claims.new) }
+        ensures adds { AddsAt claims.old claims.new place (λ index. fill_event index place) }
     {
-        if laid {
-            let cell = self.fill_tied(claims, block, &key, place, offset, value);
-            return Ok(Placed { key, cell });
-        }
-        match block.begin_plain(offset) {
-            Ok(pen) => Ok(Placed {
-                key,
-                cell: pen.fill(value),
-            }),
-            Err(found) => Err(self.found(key, offset, found)),
-        }
-    }
-
-    // What a cell of the segment with this key held. If it were called, a push would clear room for its result.
-    #[inline(always)]
-    #[tactic(auto, using(crate::proofs::Cells::small_cell))]
-    fn found(&self, key: Key, offset: u64, found: block::Found<T>) -> Found<T>
-        requires key { IsKeyIn self.now.segments key }
-        requires long { IsBlockOf (layout_of self.now) key.segment key.block }
-        requires within { offset < block_len key.block }
-        requires found { IsFoundIn key.block offset found }
-        requires not_empty { IsNotEmpty found }
-        ensures { IsFoundAt self.now (place_in (layout_of self.now) key.segment offset) result }
-    {
-        // Only the contract speaks of the offset.
-        let _ = offset;
-        match found {
-            block::Found::Empty => unreachable!(),
-            block::Found::Busy(cell) => Found::Busy(BegunPlace { key, cell }),
-            block::Found::Filled(cell) => Found::Filled(Placed { key, cell }),
-            block::Found::Broken(cell) => Found::Broken(Spoilt { key, cell }),
-        }
+        let cell = self.fill_tied(claims, block, &key, place, offset, value);
+        Placed { key, cell }
     }
 }

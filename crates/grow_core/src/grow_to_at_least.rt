@@ -50,8 +50,8 @@ impl<T: Drop> Shared<T> {
         ensures full { limit_of self.now < size → IsErrAnd result SaysFull }
         // The history gets the claim of the run up to the size and what became of each place, or the event whose reply
         // the refusal is.
-        ensures logs { IfOk result (LogsAtLeast self.now size hand.old hand.new) }
-        ensures logs_refusal { IfErr result (LogsRefusalUpTo self.now size hand.old hand.new) }
+        ensures logs { IfOk result (LogsAtLeast size hand.old hand.new) }
+        ensures logs_refusal { IfErr result (LogsRefusalUpTo size hand.old hand.new) }
     {
         self.make_up_to(hand, size, &mut make)
     }
@@ -71,8 +71,8 @@ impl<T: Drop> Shared<T> {
         ensures asked { IfErr result (LeavesMaker F.step make.old make.new) }
         ensures enough { size ≤ seen_size hand.old → IsOkAnd result SaysEnough }
         ensures full { limit_of self.now < size → IsErrAnd result SaysFull }
-        ensures logs { IfOk result (LogsAtLeast self.now size hand.old hand.new) }
-        ensures logs_refusal { IfErr result (LogsRefusalUpTo self.now size hand.old hand.new) }
+        ensures logs { IfOk result (LogsAtLeast size hand.old hand.new) }
+        ensures logs_refusal { IfErr result (LogsRefusalUpTo size hand.old hand.new) }
     {
         match self.claim_up_to(hand, size)? {
             Reached::Enough { size } => Ok(AtLeast::Enough { size }),
@@ -94,7 +94,7 @@ impl<T: Drop> Shared<T> {
         // The run is the last that the hand has seen, and no place of it is known begun.
         ensures new_run { IfOk result (IsNewIn hand.new) }
         ensures logs { IfOk result (LogsReached size hand.old hand.new) }
-        ensures logs_refusal { IfErr result (LogsRefusalUpTo self.now size hand.old hand.new) }
+        ensures logs_refusal { IfErr result (LogsRefusalUpTo size hand.old hand.new) }
     {
         let from = self.size_up_to(hand, size);
         if size <= from {
@@ -121,7 +121,7 @@ impl<T: Drop> Shared<T> {
         // The run is the last that the hand has seen, and no place of it is known begun.
         ensures new_run { IfOk result (IsNewIn hand.new) }
         ensures logs { IfOk result (LogsReached size hand.old hand.new) }
-        ensures logs_refusal { IfErr result (LogsRefusalUpTo self.now size hand.old hand.new) }
+        ensures logs_refusal { IfErr result (LogsRefusalUpTo size hand.old hand.new) }
     {
         // For the proof: the hand keeps its places, and owns those of the run that it gains.
         self.laws();

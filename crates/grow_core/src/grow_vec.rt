@@ -4,9 +4,8 @@ ghost use Rattle.grow_core.specs.Vector.{IsHandOf, limit_of};
 ghost use Rattle.grow_core.specs.Grown.{IsGrownOf, AreKeptFrom, values_of};
 ghost use Rattle.grow_core.specs.Keys.{OwnsPlacesOf};
 ghost use Rattle.grow_core.specs.Growth.{WonRun, WonPlaces, Refuses, HasNoRoom, SaysFull, IsNotMoved};
-ghost use Rattle.grow_core.specs.Making.{StopsIn};
 ghost use Rattle.grow_core.specs.Logs.{LogsGrowth, LogsRefusal, AllFilled, fill_steps};
-ghost use Rattle.grow_core.specs.Steps.{AddsOn, AreFresh, StopsWith, WorksIn};
+ghost use Rattle.grow_core.specs.Steps.{AddsOn, AreFresh, WorksIn};
 
 use crate::errors::{GrowError, Never};
 use crate::grown::Grown;
@@ -33,13 +32,13 @@ impl<T: Drop> Shared<T> {
         ensures full { HasNoRoom self.now (vec_len values) hand.old → IsErrAnd result SaysFull }
         // The history gets the claim of the run and the fill of each place, or the event whose reply the refusal is.
         ensures logs { IfOk result
-            (λ grown. LogsGrowth self.now AllFilled hand.old hand.new grown.run) }
+            (λ grown. LogsGrowth AllFilled hand.old hand.new grown.run) }
         ensures logs_refusal { IfErr result
-            (LogsRefusal self.now (vec_len values) hand.old hand.new) }
+            (LogsRefusal (vec_len values) hand.old hand.new) }
     {
         let n = values.len() as u64;
         let (run, values) = self.claim_run(hand, n, values)?;
-        self.fill_run(hand, run, values)
+        Ok(self.fill_run(hand, run, values))
     }
 
     /// Appends the values like `try_grow_vec`, and retries if another caller was first.
@@ -58,13 +57,13 @@ impl<T: Drop> Shared<T> {
         ensures not_moved { IfErr result IsNotMoved }
         // The history gets the claim of the run and the fill of each place, or the event whose reply the refusal is.
         ensures logs { IfOk result
-            (λ grown. LogsGrowth self.now AllFilled hand.old hand.new grown.run) }
+            (λ grown. LogsGrowth AllFilled hand.old hand.new grown.run) }
         ensures logs_refusal { IfErr result
-            (LogsRefusal self.now (vec_len values) hand.old hand.new) }
+            (LogsRefusal (vec_len values) hand.old hand.new) }
     {
         let n = values.len() as u64;
         let (run, values) = self.claim_again(rt, hand, n, values)?;
-        self.fill_run(hand, run, values)
+        Ok(self.fill_run(hand, run, values))
     }
 
     /// Appends the values like `grow_vec`, without tokens. A look shows the values, and the closed list has
@@ -83,9 +82,9 @@ impl<T: Drop> Shared<T> {
         ensures full { HasNoRoom self.now (vec_len values) hand.old → IsErrAnd result SaysFull }
         ensures not_moved { IfErr result IsNotMoved }
         // The history gets the claim of the run and the fill of each place, or the event whose reply the refusal is.
-        ensures logs { IfOk result (LogsGrowth self.now AllFilled hand.old hand.new) }
+        ensures logs { IfOk result (LogsGrowth AllFilled hand.old hand.new) }
         ensures logs_refusal { IfErr result
-            (LogsRefusal self.now (vec_len values) hand.old hand.new) }
+            (LogsRefusal (vec_len values) hand.old hand.new) }
     {
         self.append_by(rt, hand, values, &mut |_placed: Placed<T>| {})
     }
@@ -108,59 +107,47 @@ impl<T: Drop> Shared<T> {
             (Refuses self.now (vec_len values) values hand.old hand.new) }
         ensures full { HasNoRoom self.now (vec_len values) hand.old → IsErrAnd result SaysFull }
         ensures not_moved { IfErr result IsNotMoved }
-        ensures logs { IfOk result (LogsGrowth self.now AllFilled hand.old hand.new) }
+        ensures logs { IfOk result (LogsGrowth AllFilled hand.old hand.new) }
         ensures logs_refusal { IfErr result
-            (LogsRefusal self.now (vec_len values) hand.old hand.new) }
+            (LogsRefusal (vec_len values) hand.old hand.new) }
     {
         let n = values.len() as u64;
         let (won, values) = self.claim_again(rt, hand, n, values)?;
-        self.place_run(hand, won, values, keep)
+        self.place_run(hand, won, values, keep);
+        Ok(won)
     }
 
-    // Fills the places of a run of the hand's with the values. It stops at a place that was taken.
-    fn fill_run(
-        &self,
-        hand: &mut Hand<T>,
-        run: Run,
-        values: Vec<T>,
-    ) -> Result<Grown<T>, GrowError<T, Vec<T>, Never>>
+    // Fills the places of a run of the hand's with the values.
+    fn fill_run(&self, hand: &mut Hand<T>, run: Run, values: Vec<T>) -> Grown<T>
         requires ours { IsHandOf self.now hand.old }
         requires owned { OwnsPlacesOf hand.old run }
         requires fresh { AreFresh hand.old run.from run.n }
         requires within { run.from + run.n ≤ limit_of self.now }
         requires values { vec_len values ≡ run.n }
-        ensures run { IfOk result (λ grown. grown.run ≡ run) }
-        ensures tokens { IfOk result (IsGrownOf self.now) }
-        ensures values { IfOk result (λ grown. values_of grown ≡ values.items) }
-        ensures stopped { IfErr result (StopsIn self.now run) }
+        ensures run { result.run ≡ run }
+        ensures tokens { IsGrownOf self.now result }
+        ensures values { values_of result ≡ values.items }
         ensures works { WorksIn hand.old hand.new run.from run.n }
-        ensures adds { IfOk result (λ _. AddsOn self.now hand.old hand.new run run.from
-            (λ index. fill_steps index run.from run.n)) }
-        // No place is taken whose segment was laid since the opening.
-        ensures leaves { IfErr result (StopsWith self.now hand.old hand.new run) }
+        ensures adds { AddsOn hand.old hand.new run (λ index. fill_steps index run.from run.n) }
     {
         // For the proof: the vector's base is within its limit, and a run's places are those of its index.
         self.laws();
         laws::seen_runs_have_places();
         let mut filled = self.no_places();
         if run.n == 0 {
-            return Ok(self.grown(run, filled));
+            return self.grown(run, filled);
         }
         let mut segment = self.find_segment(hand, run.from);
         let mut left = values.into_iter();
         let mut place = run.from;
         while place < run.from + run.n {
             self.next_segment(hand, &mut segment, place);
-            match self.fill_next(&mut hand.claims, &segment, place, left) {
-                Ok((stretch, rest)) => {
-                    place += stretch.n;
-                    filled = self.know(filled, stretch);
-                    left = rest;
-                }
-                Err(found) => return Err(GrowError::Taken { place, found }),
-            }
+            let (stretch, rest) = self.fill_next(&mut hand.claims, &segment, place, left);
+            place += stretch.n;
+            filled = self.know(filled, stretch);
+            left = rest;
         }
-        Ok(self.grown(run, filled))
+        self.grown(run, filled)
     }
 
     // Like `fill_run`, with each token given to `keep`.
@@ -170,46 +157,32 @@ impl<T: Drop> Shared<T> {
         run: Run,
         values: Vec<T>,
         keep: &mut K,
-    ) -> Result<Run, GrowError<T, Vec<T>, Never>>
+    )
         requires ours { IsHandOf self.now hand.old }
         requires owned { OwnsPlacesOf hand.old run }
         requires fresh { AreFresh hand.old run.from run.n }
         requires within { run.from + run.n ≤ limit_of self.now }
         requires values { vec_len values ≡ run.n }
         requires callable { K.IsAlwaysCallable keep.old }
-        ensures run { IfOk result (λ filled. filled ≡ run) }
-        ensures kept { IfOk result
-            (λ _. AreKeptFrom K.step keep.old keep.new self.now run.from values.items) }
-        ensures stopped { IfErr result (StopsIn self.now run) }
+        ensures kept { AreKeptFrom K.step keep.old keep.new self.now run.from values.items }
         ensures works { WorksIn hand.old hand.new run.from run.n }
-        ensures adds { IfOk result (λ _. AddsOn self.now hand.old hand.new run run.from
-            (λ index. fill_steps index run.from run.n)) }
-        // No place is taken whose segment was laid since the opening.
-        ensures leaves { IfErr result (StopsWith self.now hand.old hand.new run) }
+        ensures adds { AddsOn hand.old hand.new run (λ index. fill_steps index run.from run.n) }
     {
         // For the proof: the vector's base is within its limit, and a run's places are those of its index.
         self.laws();
         laws::seen_runs_have_places();
         if run.n == 0 {
-            return Ok(run);
+            return;
         }
         let mut segment = self.find_segment(hand, run.from);
         let mut left = values.into_iter();
         let mut place = run.from;
         while place < run.from + run.n {
             self.next_segment(hand, &mut segment, place);
-            match self.fill_next(&mut hand.claims, &segment, place, left) {
-                Ok((stretch, rest)) => {
-                    self.keep_tokens(&stretch, keep);
-                    place += stretch.n;
-                    left = rest;
-                }
-                Err(there) => return Err(GrowError::Taken {
-                    place,
-                    found: there,
-                }),
-            }
+            let (stretch, rest) = self.fill_next(&mut hand.claims, &segment, place, left);
+            self.keep_tokens(&stretch, keep);
+            place += stretch.n;
+            left = rest;
         }
-        Ok(run)
     }
 }

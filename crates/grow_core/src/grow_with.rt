@@ -1,24 +1,21 @@
 //! Growths whose values are made in place, by a function that may refuse, or by clones.
-ghost use Rattle.std.specs.Prelude.{◌≡◌, ◌+◌, ◌-◌, ◌<◌, ◌≤◌, List, All, IfOk, IfErr, IsSome, IsErrAnd, length};
+ghost use Rattle.std.specs.Prelude.{◌≡◌, ◌+◌, ◌-◌, ◌<◌, ◌≤◌, List, All, IfOk, IfErr, IsErrAnd, length};
 ghost use Rattle.grow_core.specs.Vector.{IsHandOf, limit_of};
 ghost use Rattle.grow_core.specs.Grown.{IsGrownOf, values_of};
 ghost use Rattle.grow_core.specs.Filled.{IsFilledOf};
 ghost use Rattle.grow_core.specs.Keys.{OwnsPlacesOf};
 ghost use Rattle.grow_core.specs.Growth.{Refuses, HasNoRoom, SaysFull, IsNotMoved};
-ghost use Rattle.grow_core.specs.Making.{Makes, StopsAfter, StopsIn, LeavesMaker, IsRefusedBy, IsTakenFrom};
-ghost use Rattle.grow_core.specs.Making.{WonMade, WonClones, IsRefusedAfter, OnRefused, TakesBelow};
-ghost use Rattle.grow_core.specs.Begun.{AreUnwritten, begun_count};
+ghost use Rattle.grow_core.specs.Making.{Makes, StopsAfter, StopsIn, LeavesMaker, IsRefusedBy};
+ghost use Rattle.grow_core.specs.Making.{WonMade, WonClones, IsRefusedAfter};
 ghost use Rattle.grow_core.specs.Logs.{LogsGrowth, LogsRefusal, AllFilled, break_steps, fill_steps};
 ghost use Rattle.grow_core.specs.Steps.{AddsOn, AreFresh, StopsWith, WorksIn};
 
-use crate::begun::{break_begun, count_begun};
 use crate::errors::GrowError;
 use crate::filled::Filled;
 use crate::grown::Grown;
 use crate::hand::Hand;
-use crate::token::{Found, Spoilt};
+use crate::token::Spoilt;
 use crate::vector::Shared;
-use cell_core::block::RunPen;
 use claim_core::{Run, laws};
 use std::alloc::AllocError;
 use std::sync::Wait;
@@ -46,8 +43,8 @@ impl<T: Drop> Shared<T> {
         // The history gets the claim of the run and what became of each place, or the event whose reply the refusal
         // is.
         ensures logs { IfOk result
-            (λ grown. LogsGrowth self.now AllFilled hand.old hand.new grown.run) }
-        ensures logs_refusal { IfErr result (LogsRefusal self.now n hand.old hand.new) }
+            (λ grown. LogsGrowth AllFilled hand.old hand.new grown.run) }
+        ensures logs_refusal { IfErr result (LogsRefusal n hand.old hand.new) }
     {
         self.try_make(hand, n, &mut make)
     }
@@ -67,8 +64,8 @@ impl<T: Drop> Shared<T> {
         ensures asked { IfErr result (LeavesMaker F.step make.old make.new) }
         ensures full { HasNoRoom self.now n hand.old → IsErrAnd result SaysFull }
         ensures logs { IfOk result
-            (λ grown. LogsGrowth self.now AllFilled hand.old hand.new grown.run) }
-        ensures logs_refusal { IfErr result (LogsRefusal self.now n hand.old hand.new) }
+            (λ grown. LogsGrowth AllFilled hand.old hand.new grown.run) }
+        ensures logs_refusal { IfErr result (LogsRefusal n hand.old hand.new) }
     {
         let (run, ()) = self.claim_run(hand, n, ())?;
         self.make_run(hand, run, make)
@@ -93,8 +90,8 @@ impl<T: Drop> Shared<T> {
         // The history gets the claim of the run and what became of each place, or the event whose reply the refusal
         // is.
         ensures logs { IfOk result
-            (λ grown. LogsGrowth self.now AllFilled hand.old hand.new grown.run) }
-        ensures logs_refusal { IfErr result (LogsRefusal self.now n hand.old hand.new) }
+            (λ grown. LogsGrowth AllFilled hand.old hand.new grown.run) }
+        ensures logs_refusal { IfErr result (LogsRefusal n hand.old hand.new) }
     {
         self.make_again(rt, hand, n, &mut make)
     }
@@ -116,15 +113,15 @@ impl<T: Drop> Shared<T> {
         ensures full { HasNoRoom self.now n hand.old → IsErrAnd result SaysFull }
         ensures not_moved { IfErr result IsNotMoved }
         ensures logs { IfOk result
-            (λ grown. LogsGrowth self.now AllFilled hand.old hand.new grown.run) }
-        ensures logs_refusal { IfErr result (LogsRefusal self.now n hand.old hand.new) }
+            (λ grown. LogsGrowth AllFilled hand.old hand.new grown.run) }
+        ensures logs_refusal { IfErr result (LogsRefusal n hand.old hand.new) }
     {
         let (run, ()) = self.claim_again(rt, hand, n, ())?;
         self.make_run(hand, run, make)
     }
 
-    // Fills the places of a run of the hand's with what the maker makes. It stops at a place that was taken,
-    // and after a refusal it breaks the places that are left.
+    // Fills the places of a run of the hand's with what the maker makes. After a refusal it breaks the places that are
+    // left.
     pub(crate) fn make_run<E: Drop, F: FnMut(u64) -> Result<T, E>>(
         &self,
         hand: &mut Hand<T>,
@@ -143,44 +140,28 @@ impl<T: Drop> Shared<T> {
         ensures stopped { IfErr result (StopsIn self.now run) }
         ensures asked { IfErr result (LeavesMaker F.step make.old make.new) }
         ensures works { WorksIn hand.old hand.new run.from run.n }
-        ensures adds { IfOk result (λ _. AddsOn self.now hand.old hand.new run run.from
+        ensures adds { IfOk result (λ _. AddsOn hand.old hand.new run
             (λ index. fill_steps index run.from run.n)) }
-        ensures leaves { IfErr result (StopsWith self.now hand.old hand.new run) }
+        ensures leaves { IfErr result (StopsWith hand.old hand.new run) }
     {
         // For the proof: the vector's base is within its limit, and a run's places are those of its index.
         self.laws();
         laws::seen_runs_have_places();
-        // And a segment that is not of those laid since the opening ends where these begin, or before.
-        let _table = &self.table;
         let mut filled = self.no_places();
         if run.n == 0 {
             return Ok(self.grown(run, filled));
         }
         let mut segment = self.find_segment(hand, run.from);
-        let mut begun: Option<RunPen<'_, T>> = None;
         for i in 0..run.n {
             let value = match make(i) {
                 Ok(value) => value,
-                Err(cause) => return Err(self.stop(hand, run, i, filled, cause, begun)),
+                Err(cause) => return Err(self.stop(hand, run, i, filled, cause)),
             };
             let place = run.from + i;
             self.next_segment(hand, &mut segment, place);
-            let (put, others) = self.fill_begun(
-                &mut hand.claims,
-                &segment,
-                place,
-                run.n - i,
-                begun,
-                value,
-            );
-            begun = others;
-            match put {
-                Ok(placed) => filled = self.know(filled, self.stretch_of(placed)),
-                Err(found) => return Err(report_taken(place, found, begun)),
-            }
+            let placed = self.fill(&mut hand.claims, &segment, place, value);
+            filled = self.know(filled, self.stretch_of(placed));
         }
-        // By now every place that was begun is filled, so this breaks none: a run must be spent.
-        break_begun(begun);
         Ok(self.grown(run, filled))
     }
 
@@ -193,7 +174,6 @@ impl<T: Drop> Shared<T> {
         n: u64,
         filled: Filled<T>,
         cause: E,
-        begun: Option<RunPen<'_, T>>,
     ) -> GrowError<T, (), E>
         requires ours { IsHandOf self.now hand.old }
         requires owned { OwnsPlacesOf hand.old run }
@@ -202,49 +182,22 @@ impl<T: Drop> Shared<T> {
         requires filled { (values : List T) × (length values ≡ n)
             × IsFilledOf self.now run.from values filled }
         requires fewer { n < run.n }
-        requires unwritten { AreUnwritten begun }
-        requires begun { n + begun_count begun ≤ run.n }
-        requires plain { IsSome begun → run.from + n < self.now.laid }
         ensures stopped { StopsIn self.now run result }
-        // The places before it have their values still.
-        ensures after { IsTakenFrom (run.from + n) result }
         ensures cause { (values : List T) → IsFilledOf self.now run.from values filled
             → IsRefusedBy (λ made why. (made ≡ values) × (why ≡ cause)) result }
         ensures made { IsRefusedAfter n result }
         ensures works { WorksIn hand.old hand.new (run.from + n) (run.n - n) }
-        ensures adds { OnRefused result (AddsOn self.now hand.old hand.new run (run.from + n)
-            (λ index. break_steps index (run.from + n) (run.n - n))) }
-        ensures opened { TakesBelow self.now.laid result }
+        ensures adds { AddsOn hand.old hand.new run
+            (λ index. break_steps index (run.from + n) (run.n - n)) }
     {
         let made = Run { from: run.from, n };
-        let first = n + count_begun(&begun);
-        break_begun(begun);
-        match self.break_rest(hand, run, first, &mut |_spoilt: Spoilt| {}) {
-            Ok(()) => GrowError::Refused {
-                run,
-                made: self.grown(made, filled),
-                cause,
-            },
-            Err((place, found)) => {
-                drop((filled, cause));
-                GrowError::Taken { place, found }
-            }
+        self.break_rest(hand, run, n, &mut |_spoilt: Spoilt| {});
+        GrowError::Refused {
+            run,
+            made: self.grown(made, filled),
+            cause,
         }
     }
-}
-
-// A place of the run was taken: the places that were begun after it are broken.
-#[cold]
-fn report_taken<T, E>(
-    place: u64,
-    found: Found<T>,
-    begun: Option<RunPen<'_, T>>,
-) -> GrowError<T, (), E>
-    requires { AreUnwritten begun }
-    ensures { result ≡ GrowError.Taken place found }
-{
-    break_begun(begun);
-    GrowError::Taken { place, found }
 }
 
 impl<T: Clone> Shared<T> {
@@ -265,8 +218,8 @@ impl<T: Clone> Shared<T> {
         // The history gets the claim of the run and what became of each place, or the event whose reply the refusal
         // is.
         ensures logs { IfOk result
-            (λ grown. LogsGrowth self.now AllFilled hand.old hand.new grown.run) }
-        ensures logs_refusal { IfErr result (LogsRefusal self.now n hand.old hand.new) }
+            (λ grown. LogsGrowth AllFilled hand.old hand.new grown.run) }
+        ensures logs_refusal { IfErr result (LogsRefusal n hand.old hand.new) }
     {
         let make = |_: u64| -> Result<T, AllocError>
             ensures { IfOk result (T.is_clone value.entry.now) }
@@ -291,8 +244,8 @@ impl<T: Clone> Shared<T> {
         // The history gets the claim of the run and what became of each place, or the event whose reply the refusal
         // is.
         ensures logs { IfOk result
-            (λ grown. LogsGrowth self.now AllFilled hand.old hand.new grown.run) }
-        ensures logs_refusal { IfErr result (LogsRefusal self.now n hand.old hand.new) }
+            (λ grown. LogsGrowth AllFilled hand.old hand.new grown.run) }
+        ensures logs_refusal { IfErr result (LogsRefusal n hand.old hand.new) }
     {
         let make = |_: u64| -> Result<T, AllocError>
             ensures { IfOk result (T.is_clone value.entry.now) }

@@ -21,7 +21,6 @@
 //! members (`specs/Parts.antt`): exactly what was appended is read, and moved out.
 #![tactic(auto)]
 
-mod begun;
 mod blocks;
 mod break_run;
 mod claim;
@@ -39,6 +38,7 @@ mod keys;
 pub mod makers;
 mod mend;
 mod open;
+mod opening;
 mod parts;
 mod pop_segment;
 mod published;

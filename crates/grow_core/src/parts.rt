@@ -8,7 +8,7 @@ ghost use Rattle.grow_core.specs.Slices.{HasBroken};
 use crate::blocks::{cell_of, clear_entry, put_block, take_block, write};
 use crate::keys::{Keys, no_keys};
 use crate::ties::SegmentTable;
-use cell_core::block::{Epoch, Row};
+use cell_core::block::{Block, Epoch, Row};
 use claim_core::Mark;
 use seg_core::Layout;
 use std::alloc::{AllocError, Global};
@@ -39,9 +39,8 @@ pub struct Parts<T> {
 
 impl<T> Model for Parts<T> {
     ghost use Rattle.std.specs.Prelude.{◌≡◌, option_map};
-    ghost use Rattle.grow_core.specs.Parts.{PartsView, parts_coded, broken_count, values_in, AreWhole, AreBrokenIn};
+    ghost use Rattle.grow_core.specs.Parts.{PartsView, parts_coded, broken_count, values_in, AreWhole, AreBrokenIn, AreStaged};
     ghost use Rattle.grow_core.specs.Closing.{IsKept};
-    ghost use Rattle.grow_core.specs.Ties.{ArePlainBelow};
 
     ghost Value = { PartsView T };
 
@@ -59,7 +58,7 @@ impl<T> Model for Parts<T> {
         p.count
         × IsKept p.table.layout (option_map (λ m. m.numbers) p.closed) p.before p.table.names p.keys p.row p.count
         × AreBrokenIn p.epoch p.row × (p.broken ≡ broken_count (values_in p.row))
-        × ArePlainBelow p.table p.count };
+        × AreStaged p.table.layout p.keys p.row p.count };
 }
 
 // Counts a member: 1 if it is broken, otherwise 0.
@@ -199,7 +198,7 @@ impl<T: Drop> Parts<T> {
         self.count > 0 && self.layout().first(self.count - 1) >= self.len
     }
 
-    // One segment more.
+    // One segment more. Its cells are empty.
     fn add_segment(&mut self) -> Result<(), AllocError>
         requires { self.old.segments < segment_count self.old.layout }
         ensures rest_kept { self.new ≡ record self.old
@@ -208,10 +207,11 @@ impl<T: Drop> Parts<T> {
         ensures same { IfErr result (λ _. self.new.segments ≡ self.old.segments) }
     {
         self.closed = None;
-        // The entry may be tied still, if a vector was closed into the list.
+        // The entry may be set still, if a vector was closed into the list.
         clear_entry(&mut self.table, &mut self.keys, self.count);
-        let (_, key) = self.table.install_key(self.count)?;
-        self.keys.set(self.count, Some(key));
+        let n = self.table.layout().len(self.count);
+        let block = Box::new(self.alloc, Block::new_idle(self.alloc, n)?)?;
+        put_block(&mut self.table, &mut self.keys, self.count, block);
         self.count += 1;
         Ok(())
     }
@@ -285,7 +285,6 @@ impl<T: Drop> Parts<T> {
     }
 
     /// Moves the last member out, or returns `None` if it was broken. It takes no memory.
-    #[tactic(auto, using(crate::proofs::PlainSegments::plain_written, crate::proofs::PlainSegments::plain_renewed))]
     pub fn pop(&mut self) -> Option<T>
         requires { 0 < length self.old.members }
         ensures member { self.old.members ≡ self.new.members ++ result ∷ [] }
@@ -309,7 +308,6 @@ impl<T: Drop> Parts<T> {
 
     /// Replaces the member at the place by a value or, with `None`, breaks it, and returns the value that was
     /// there, or `None` if it was broken. It takes no memory.
-    #[tactic(auto, using(crate::proofs::PlainSegments::plain_written, crate::proofs::PlainSegments::plain_renewed))]
     pub fn replace(&mut self, place: u64, value: Option<T>) -> Option<T>
         requires { place < length self.old.members }
         ensures members { self.new.members ≡ slice_set self.old.members place value }

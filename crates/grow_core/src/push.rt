@@ -30,8 +30,8 @@ impl<T: Drop> Shared<T> {
         // Room that is missing by what the hand has seen is reported before memory is asked for.
         ensures full { HasNoRoom self.now 1 hand.old → IsErrAnd result SaysFull }
         // The history gets the claim of the place and its fill, or the event whose reply the refusal is.
-        ensures logs { IfOk result (λ placed. LogsPush self.now hand.old hand.new placed.place) }
-        ensures logs_refusal { IfErr result (LogsRefusal self.now 1 hand.old hand.new) }
+        ensures logs { IfOk result (λ placed. LogsPush hand.old hand.new placed.place) }
+        ensures logs_refusal { IfErr result (LogsRefusal 1 hand.old hand.new) }
     {
         let from = self.look_at_size(hand);
         self.push_at(hand, from, value)
@@ -53,8 +53,8 @@ impl<T: Drop> Shared<T> {
         // Room that is missing by what the hand has seen is reported before memory is asked for.
         ensures full { HasNoRoom self.now 1 hand.old → IsErrAnd result SaysFull }
         // The history gets the claim of the place and its fill, or the event whose reply the refusal is.
-        ensures logs { IfOk result (λ placed. LogsPush self.now hand.old hand.new placed.place) }
-        ensures logs_refusal { IfErr result (LogsRefusal self.now 1 hand.old hand.new) }
+        ensures logs { IfOk result (λ placed. LogsPush hand.old hand.new placed.place) }
+        ensures logs_refusal { IfErr result (LogsRefusal 1 hand.old hand.new) }
     {
         let seen = hand.seen();
         self.push_at(hand, seen, value)
@@ -93,8 +93,8 @@ impl<T: Drop> Shared<T> {
         ensures here { IfOk result (λ placed. placed.place ≡ from) }
         ensures refused { IfErr result (Refuses self.now 1 value hand.old hand.new) }
         ensures full { HasNoRoom self.now 1 hand.old → IsErrAnd result SaysFull }
-        ensures logs { IfOk result (λ placed. LogsPush self.now hand.old hand.new placed.place) }
-        ensures logs_refusal { IfErr result (LogsRefusal self.now 1 hand.old hand.new) }
+        ensures logs { IfOk result (λ placed. LogsPush hand.old hand.new placed.place) }
+        ensures logs_refusal { IfErr result (LogsRefusal 1 hand.old hand.new) }
     {
         // For the proof: the hand keeps its places, and owns the one that it gains.
         self.laws();
@@ -112,20 +112,8 @@ impl<T: Drop> Shared<T> {
             return Err(GrowError::NoMemory { back: value });
         };
         let block = self.known_block(&key);
-        let laid = self.is_laid(segment);
         match self.word.exchange_as::<Brand>(&mut hand.claims, from, 1) {
-            Ok(_run) => match self.fill_cell(
-                &mut hand.claims,
-                block,
-                key,
-                from,
-                offset,
-                laid,
-                value,
-            ) {
-                Ok(placed) => Ok(placed),
-                Err(found) => Err(GrowError::Taken { place: from, found }),
-            },
+            Ok(_run) => Ok(self.fill_cell(&mut hand.claims, block, key, from, offset, value)),
             Err(Moved { size }) if size >= limit => Err(GrowError::Full { size, back: value }),
             Err(Moved { size }) => Err(GrowError::Moved { size, back: value }),
         }
@@ -146,8 +134,8 @@ impl<T: Drop> Shared<T> {
         ensures full { HasNoRoom self.now 1 hand.old → IsErrAnd result SaysFull }
         ensures not_moved { IfErr result IsNotMoved }
         // The history gets the claim of the place and its fill, or the event whose reply the refusal is.
-        ensures logs { IfOk result (λ placed. LogsPush self.now hand.old hand.new placed.place) }
-        ensures logs_refusal { IfErr result (LogsRefusal self.now 1 hand.old hand.new) }
+        ensures logs { IfOk result (λ placed. LogsPush hand.old hand.new placed.place) }
+        ensures logs_refusal { IfErr result (LogsRefusal 1 hand.old hand.new) }
     {
         for _try in rt.forever() {
             let from = hand.seen();

@@ -5,8 +5,8 @@ ghost use Rattle.cell_core.specs.Block.{block_len};
 ghost use Rattle.cell_core.specs.Shown.{IsLookAt};
 ghost use Rattle.table_core.specs.Table.{IsBlockOf, IsKeyIn};
 ghost use Rattle.grow_core.specs.Token.{place_in};
-ghost use Rattle.grow_core.specs.Vector.{IsHandOf, IsLaid, IsPlacedOf, IsOpenedAt, SeesMore, base_of, layout_of, limit_of};
-ghost use Rattle.grow_core.specs.Read.{IsAt, IsShownAt, ShowsValue, IsDueAt, IsInRange};
+ghost use Rattle.grow_core.specs.Vector.{IsHandOf, IsPlacedOf, IsOpenedAt, SeesMore, base_of, layout_of, limit_of};
+ghost use Rattle.grow_core.specs.Read.{ShowsNoOther, IsAt, IsShownAt, ShowsValue, IsDueAt, IsInRange};
 ghost use Rattle.grow_core.specs.Logs.{LogsNothing, LogsAtRefusal, LogsRead, IsFinishedIn};
 ghost use Rattle.grow_core.specs.Shown.{LogsShown, look_steps, shown_steps};
 ghost use Rattle.grow_core.specs.Steps.{FindsMore};
@@ -68,9 +68,9 @@ impl<T> Shared<T> {
         ensures logs_refusal { IfErr result (LogsAtRefusal place hand.old hand.new) }
         // A read with a token adds nothing. One without adds its look, with what it returned.
         ensures token { IsSome known.entry → hand.new ≡ hand.old }
-        ensures looks { known.entry ≡ None → LogsRead self.now place hand.old hand.new result }
+        ensures looks { known.entry ≡ None → LogsRead place hand.old hand.new result }
         // A caller that has seen the place filled in the history finds it filled.
-        ensures finished { IsFinishedIn hand.old.log place → IsLaid self.now place → IsOk result }
+        ensures finished { IsFinishedIn hand.old.log place → IsOk result }
     {
         if let Some(token) = known {
             return Ok(self.at_token(token));
@@ -108,8 +108,7 @@ impl<T> Shared<T> {
         }
     }
 
-    // Looks at a place that the hand has seen claimed. The look is logged, if the place's segment was laid since the
-    // opening.
+    // Looks at a place that the hand has seen claimed. The history gets the look.
     #[inline(always)]
     fn look_for<'a>(&'a self, hand: &mut Hand<T>, place: u64) -> Shown<'a, T>
         requires ours { IsHandOf self.now hand.old }
@@ -117,46 +116,22 @@ impl<T> Shared<T> {
         ensures shown { IsShownAt self.now place result }
         ensures opened { (x : T) → IsOpenedAt self.now place x → ShowsValue x result }
         ensures finds { FindsMore hand.old hand.new }
-        ensures logs { LogsShown self.now place hand.old hand.new result }
+        ensures logs { LogsShown place hand.old hand.new result }
     {
-        // For the proof: the opened list lies in segments that it brought, and the size is within the limit.
+        // For the proof: the size is within the limit, and a value of the opened list is in each history.
         self.laws();
         hand.laws();
-        let layout = self.layout();
-        let (segment, offset) = layout.locate(place);
-        if !self.is_laid(segment) {
-            return self.look_in_opened(place);
-        }
+        laws::opened_values_are_found();
+        let (segment, offset) = self.layout().locate(place);
         let Some((block, key)) = self.scout_tied(&mut hand.claims, segment, place) else {
+            // For the proof: the hand's history is a legal one.
+            hand.laws();
             return Shown::Pending;
         };
         let look = self.look_tied(&mut hand.claims, block, &key, place, offset);
+        // For the proof: the same.
+        hand.laws();
         self.shown_in(key, look)
-    }
-
-    // What a place of the opened list's segments shows. Only calls that come here clear the room for a result.
-    #[inline(always)]
-    fn look_in_opened(&self, place: u64) -> Shown<'_, T>
-        requires { place < limit_of self.now }
-        ensures shown { IsShownAt self.now place result }
-        ensures opened { (x : T) → IsOpenedAt self.now place x → ShowsValue x result }
-    {
-        match self.look_far(place) {
-            Shown::Pending => Shown::Pending,
-            Shown::Filled(at) => Shown::Filled(at),
-            Shown::Broken(spoilt) => Shown::Broken(spoilt),
-        }
-    }
-
-    // The same, by a call.
-    #[cold]
-    #[inline(never)]
-    fn look_far(&self, place: u64) -> Shown<'_, T>
-        requires { place < limit_of self.now }
-        ensures shown { IsShownAt self.now place result }
-        ensures opened { (x : T) → IsOpenedAt self.now place x → ShowsValue x result }
-    {
-        self.look_within(place)
     }
 
     // What a cell of the segment with this key showed.
@@ -168,14 +143,20 @@ impl<T> Shared<T> {
         requires look { (offset : ℕ) × (offset < block_len key.block) × IsLookAt key.block offset look }
         ensures shown { (offset : ℕ) → offset < block_len key.block → IsLookAt key.block offset look.entry
             → IsShownAt self.now (place_in (layout_of self.now) key.segment offset) result }
+        // A value that is shown is that of the opened list, if this has one there.
+        ensures opened { (offset : ℕ) (x : T) → offset < block_len key.block
+            → IsLookAt key.block offset look.entry
+            → IsOpenedAt self.now (place_in (layout_of self.now) key.segment offset) x
+            → ShowsNoOther x result }
         ensures steps { (place : ℕ) → shown_steps place result ≡ look_steps place look.entry }
     {
         match look {
             Look::Empty | Look::Busy => Shown::Pending,
-            Look::Filled(value, cell) => Shown::Filled(At {
-                value,
-                placed: Placed { key, cell },
-            }),
+            Look::Filled(value, cell) => {
+                let placed = Placed { key, cell };
+                self.opened_agrees(&placed);
+                Shown::Filled(At { value, placed })
+            }
             Look::Broken(cell) => Shown::Broken(Spoilt { key, cell }),
         }
     }
@@ -206,10 +187,7 @@ impl<T> Shared<T> {
         ensures opened { (x : T) → IsOpenedAt self.now place x → ShowsValue x result }
     {
         match self.look_into(place) {
-            Shown::Filled(at) => {
-                self.opened_agrees(&at.placed);
-                Shown::Filled(at)
-            }
+            Shown::Filled(at) => Shown::Filled(at),
             Shown::Pending => self.look_again(place, Shown::Pending),
             Shown::Broken(spoilt) => self.look_again(place, Shown::Broken(spoilt)),
         }
@@ -280,7 +258,7 @@ impl<T> Shared<T> {
     // Shows a proof that a token has the value of the opened list, if that has one at its place. It is laid into its
     // callers, and leaves no instruction there.
     #[inline(always)]
-    fn opened_agrees(&self, placed: &Placed<T>)
+    pub(crate) fn opened_agrees(&self, placed: &Placed<T>)
         requires { IsPlacedOf self.now placed.now }
         ensures { (x : T) → IsOpenedAt self.now placed.now.place x → placed.now.value ≡ x }
     {
@@ -304,7 +282,8 @@ impl<T> Shared<T> {
     #[inline(always)]
     fn look_into(&self, place: u64) -> Shown<'_, T>
         requires { place < limit_of self.now }
-        ensures { IsShownAt self.now place result }
+        ensures shown { IsShownAt self.now place result }
+        ensures opened { (x : T) → IsOpenedAt self.now place x → ShowsNoOther x result }
     {
         // For the proof: the vector's base is within its limit.
         self.laws();

@@ -1,19 +1,18 @@
-// How a hand finds the segments of its places, or installs them. Where an entry is tied, its look and its exchange run a
-// visit of the hand's seat, and the hand learns where the cells of the segment are.
-ghost use Rattle.std.specs.Prelude.{◌≡◌, ◌≤◌, ◌<◌, ◌+◌, [], ◌∷◌, IfOk, IfSome, IfNone, IsSome, IsTrue, IsFalse};
+// How a hand finds the segments of its places, or installs them. A look at an entry, and its exchange, run a visit of the
+// hand's seat, and the hand learns where the cells of the segment are.
+ghost use Rattle.std.specs.Prelude.{◌≡◌, ◌≤◌, ◌<◌, ◌+◌, [], ◌∷◌, IfOk, IfSome, IfNone, IsSome};
 ghost use Rattle.seg_core.specs.Segment.{HasPlace, most_places, segment_count, segment_end, segment_start};
 ghost use Rattle.tie_core.specs.Tags.{tag_of};
 ghost use Rattle.claim_core.specs.Hand.{IsWholeHand, seen_size};
 ghost use Rattle.claim_core.specs.Plays.{block_view};
 ghost use Rattle.cell_core.specs.Block.{block_len};
 ghost use Rattle.cell_core.specs.Mould.{first_seat, last_seat};
-ghost use Rattle.cell_core.specs.Slot.{ArePlain};
 ghost use Rattle.table_core.specs.Table.{IsBlockOf, IsKeyIn, IsKeyOf, IsLengthOf, IsTiedBlockOf};
 ghost use Rattle.grow_core.specs.Keys.{AreKeys, HasKeysOfRun, IsKeyAt, KeepsKeys, key_at, mark_of};
 ghost use Rattle.grow_core.specs.Logs.{pending_look, step_of};
 ghost use Rattle.grow_core.specs.Steps.{FindsMore, LooksAt};
-ghost use Rattle.grow_core.specs.Ties.{IsBlockBy, IsTagFor, KnowsRow, KnowsRows};
-ghost use Rattle.grow_core.specs.Vector.{IsHandOf, IsLaid, layout_of, limit_of};
+ghost use Rattle.grow_core.specs.Ties.{IsTagFor, KnowsRow, KnowsRows};
+ghost use Rattle.grow_core.specs.Vector.{IsHandOf, layout_of, limit_of};
 
 use crate::keys::{Keys, key_of, put_key};
 use crate::ties::CellBlock;
@@ -25,25 +24,14 @@ use std::marker::Brand;
 use table_core::Key;
 
 impl<T> Shared<T> {
-    // Tests whether the segment was laid since the vector was opened.
+    // The tag of the entry of a segment. It has no bytes.
     #[inline(always)]
-    pub(crate) fn is_laid(&self, segment: u32) -> bool
+    pub(crate) fn entry_tag(&self, segment: u32) -> RowTag
         requires { segment < segment_count (layout_of self.now) }
-        ensures laid { IsTrue result → IsLaid self.now (segment_start (layout_of self.now) segment) }
-        ensures opened { IsFalse result → segment_end (layout_of self.now) segment ≤ self.now.laid }
-    {
-        segment >= self.count
-    }
-
-    // The tag of the entry of such a segment. It has no bytes.
-    #[inline(always)]
-    fn entry_tag(&self, segment: u32) -> RowTag
-        requires within { segment < segment_count (layout_of self.now) }
-        requires laid { IsLaid self.now (segment_start (layout_of self.now) segment) }
         ensures { IsTagFor self.now.word self.now.segments segment
             (tag_of result.tie result.from result.n) }
     {
-        self.tags.at(u64::from(segment - self.count))
+        self.tags.at(u64::from(segment))
     }
 
     // The block of a key of the vector, by one load.
@@ -52,28 +40,9 @@ impl<T> Shared<T> {
         requires { IsKeyIn self.now.segments key.now }
         ensures block { result.now ≡ key.now.block }
         ensures long { IsBlockOf (layout_of self.now) key.now.segment key.now.block }
-        ensures by { IsBlockBy self.now.segments self.now.laid key.now.segment key.now.block }
+        ensures tied { IsTiedBlockOf self.now.segments key.now.segment key.now.block }
     {
         self.table.known(key)
-    }
-
-    // The key of a segment of the opened list.
-    pub(crate) fn opened_key(&self, segment: u32) -> Key
-        requires within { segment < segment_count (layout_of self.now) }
-        requires opened { segment_end (layout_of self.now) segment ≤ self.now.laid }
-        ensures key { IsKeyAt (mark_of self.now.segments) segment result }
-        ensures plain { ArePlain result.block.cells }
-    {
-        // For the proof: the list has the keys of its segments.
-        let _table = &self.table;
-        match key_of(&self.keys, segment) {
-            Some(key) => {
-                // For the proof: the cells of the entry's block are not tied.
-                self.table.known(&key);
-                key
-            }
-            None => unreachable!(),
-        }
     }
 
     // Finds the segment of a place that the hand looks at, by one load. If there is none, the load logs that the place is
@@ -88,7 +57,6 @@ impl<T> Shared<T> {
         requires ours { IsHandOf self.now claims.old }
         requires within { segment < segment_count (layout_of self.now) }
         requires there { HasPlace (layout_of self.now) segment place }
-        requires laid { IsLaid self.now (segment_start (layout_of self.now) segment) }
         requires seen { place < seen_size claims.old }
         ensures block { IfSome result (λ (block, _). IsTiedBlockOf self.now.segments segment block.now) }
         ensures key { IfSome result (λ (block, key). IsKeyOf self.now.segments segment block.now key) }
@@ -110,7 +78,6 @@ impl<T> Shared<T> {
         requires ours { IsHandOf self.now claims.old }
         requires within { segment < segment_count (layout_of self.now) }
         requires there { HasPlace (layout_of self.now) segment place }
-        requires laid { IsLaid self.now (segment_start (layout_of self.now) segment) }
         requires seen { place < seen_size claims.old }
         requires places { (R.from ≡ segment_start (layout_of self.now) segment)
             × IsLengthOf (layout_of self.now) segment R.n }
@@ -120,8 +87,6 @@ impl<T> Shared<T> {
         ensures finds { FindsMore claims.old claims.new }
         ensures logs { IfNone result (LooksAt claims.old claims.new (step_of (pending_look place))) }
     {
-        // For the proof: the opened list lies in the segments that it had.
-        self.laws();
         let visit = claims.visit_look::<R, Global>(&self.word, &self.entry_tag(segment), place);
         let (found, visit) = self.table.scout_key_for(segment, visit);
         claims.take_back_visit(visit);
@@ -134,7 +99,6 @@ impl<T> Shared<T> {
     pub(crate) fn scout_row(&self, claims: &mut ClaimHand, segment: u32) -> Option<Key>
         requires ours { IsHandOf self.now claims.old }
         requires within { segment < segment_count (layout_of self.now) }
-        requires laid { IsLaid self.now (segment_start (layout_of self.now) segment) }
         ensures key { IfSome result (IsKeyAt (mark_of self.now.segments) segment) }
         ensures long { IfSome result (λ key. IsBlockOf (layout_of self.now) segment key.block) }
         ensures tied { IfSome result (λ key. IsTiedBlockOf self.now.segments segment key.block) }
@@ -155,7 +119,6 @@ impl<T> Shared<T> {
     ) -> Option<(&'a CellBlock<T>, Key)>
         requires ours { IsHandOf self.now claims.old }
         requires within { segment < segment_count (layout_of self.now) }
-        requires laid { IsLaid self.now (segment_start (layout_of self.now) segment) }
         requires places { (R.from ≡ segment_start (layout_of self.now) segment)
             × IsLengthOf (layout_of self.now) segment R.n }
         ensures block { IfSome result (λ (block, _). IsTiedBlockOf self.now.segments segment block.now) }
@@ -175,8 +138,7 @@ impl<T> Shared<T> {
 impl<T: Drop> Shared<T> {
     // A new block for the segment, with its seat.
     fn make_block(&self, segment: u32) -> Result<(Box<CellBlock<T>>, BlockSeat), AllocError>
-        requires within { segment < segment_count (layout_of self.now) }
-        requires laid { IsLaid self.now (segment_start (layout_of self.now) segment) }
+        requires { segment < segment_count (layout_of self.now) }
         ensures block { IfOk result (λ (block, _). IsTiedBlockOf self.now.segments segment block.value) }
         ensures seat { IfOk result (λ (block, seat). (seat.table_id ≡ self.now.word.table)
             × (seat.id ≡ last_seat block.value.cells)
@@ -197,7 +159,6 @@ impl<T: Drop> Shared<T> {
     fn install_tied(&self, claims: &mut ClaimHand, segment: u32) -> Result<Key, AllocError>
         requires ours { IsHandOf self.now claims.old }
         requires within { segment < segment_count (layout_of self.now) }
-        requires laid { IsLaid self.now (segment_start (layout_of self.now) segment) }
         ensures key { IfOk result (IsKeyAt (mark_of self.now.segments) segment) }
         ensures row { IfOk result (λ key. KnowsRow claims.new segment key.block) }
         ensures finds { FindsMore claims.old claims.new }
@@ -219,7 +180,6 @@ impl<T: Drop> Shared<T> {
     ) -> Key
         requires ours { IsHandOf self.now claims.old }
         requires within { segment < segment_count (layout_of self.now) }
-        requires laid { IsLaid self.now (segment_start (layout_of self.now) segment) }
         requires block { IsTiedBlockOf self.now.segments segment block.value }
         requires seat { (seat.table_id ≡ self.now.word.table)
             × (seat.id ≡ last_seat block.value.cells)
@@ -230,8 +190,6 @@ impl<T: Drop> Shared<T> {
         ensures row { KnowsRow claims.new segment result.block }
         ensures finds { FindsMore claims.old claims.new }
     {
-        // For the proof: the opened list lies in the segments that it had.
-        self.laws();
         let mut seat = seat;
         let tag = self.entry_tag(segment);
         let visit = claims.visit_publish::<R, Global>(&self.word, &tag, &mut seat);
@@ -288,11 +246,7 @@ impl<T: Drop> Shared<T> {
         ensures row { IfOk result (λ key. KnowsRow claims.new segment key.block) }
         ensures finds { FindsMore claims.old claims.new }
     {
-        let key = if self.is_laid(segment) {
-            self.install_tied(claims, segment)?
-        } else {
-            self.opened_key(segment)
-        };
+        let key = self.install_tied(claims, segment)?;
         put_key(keys, segment, key.again());
         Ok(key)
     }
@@ -332,7 +286,7 @@ impl<T: Drop> Shared<T> {
         requires within { segment < segment_count (layout_of self.now) }
         ensures { claims.new ≡ claims.old }
     {
-        if !self.is_laid(segment) || self.table.scout(segment).is_some() {
+        if self.table.scout(segment).is_some() {
             return Ok(());
         }
         let (block, mut seat) = self.make_block(segment)?;

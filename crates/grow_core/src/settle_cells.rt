@@ -4,16 +4,16 @@ ghost use Rattle.seg_core.specs.Segment.{most_places};
 ghost use Rattle.cell_core.specs.Block.{block_len, cell_at, AreFilledFrom, IsMemberAt, KeepsOtherCells};
 ghost use Rattle.cell_core.specs.Fixed.{HasValueByStage};
 ghost use Rattle.cell_core.specs.Member.{MemberView};
-ghost use Rattle.grow_core.specs.Parts.{IsBrokenIn, broken_count, one_if_broken, values_in};
+ghost use Rattle.grow_core.specs.Parts.{IsBrokenIn, RestagesCell, broken_count, member_stage, one_if_broken, values_in};
 ghost use Rattle.grow_core.specs.Closing.{AreSettled, KeepsKnown, KeepsKnownFrom};
-ghost use Rattle.grow_core.specs.Ties.{StayPlain};
 
 use crate::ties::CellBlock;
 use cell_core::block::{Epoch, Member, Placed, Row};
 use std::marker::Model;
 
-// What is known of the cell from now on: without a value it is broken, and a known value stays.
-#[tactic(auto, using(crate::proofs::PlainSegments::plain_written, crate::proofs::PlainSegments::plain_settled))]
+// What is known of the cell from now on: without a value it is broken, and a known value stays. A cell that was fixed at
+// a stage is then fixed at that of a filled cell, or of a broken one.
+#[tactic(auto, using(crate::proofs::Staged::restaged_settled))]
 fn settle<T>(
     block: &mut CellBlock<T>,
     offset: u64,
@@ -27,7 +27,7 @@ fn settle<T>(
     ensures kept { IfSome known.now (λ k. k.value ≢ None → result.value ≡ k.value) }
     ensures stage { HasValueByStage (cell_at block.old offset) result.value }
     ensures broken { IsBrokenIn epoch.now result }
-    ensures plain { StayPlain block.old block.new }
+    ensures staged { RestagesCell block.old block.new offset (member_stage (Some result)) }
     ensures len { block_len block.new ≡ block_len block.old }
     ensures others { KeepsOtherCells block.old block.new offset }
 {
@@ -144,7 +144,6 @@ fn settle_stretch<T>(
     ensures broken { broken_count (values_in row.new)
         ≡ broken_count (values_in row.old) + result.broken }
     ensures few { result.broken ≤ result.settled }
-    ensures plain { StayPlain block.old block.new }
 {
     let (count, found) = block.filled_row(offset, n);
     opened.agree_all(place, block, offset, &found, count);
@@ -184,7 +183,6 @@ pub(crate) fn settle_cells<T>(
         block.old block.new offset opened.now place row.old row.new epoch.now n }
     ensures broken { broken_count (values_in row.new)
         ≡ broken_count (values_in row.old) + result }
-    ensures plain { StayPlain block.old block.new }
 {
     let mut done = 0;
     let mut broken = 0;

@@ -1,7 +1,6 @@
 // Places next to each other that a growth fills together.
 ghost use Rattle.std.specs.Prelude.{◌≡◌, ◌+◌, ◌<◌, ◌≤◌, ◌++◌, ◌∷◌, ℕ, List, [], Some, length, slice_get};
 ghost use Rattle.std.specs.Vec.Iter.{into_iter_items, into_iter_len};
-ghost use Rattle.cell_core.specs.Run.{members_of};
 ghost use Rattle.grow_core.specs.Grown.{AreKeptFrom};
 ghost use Rattle.grow_core.specs.Stretch.{IsCounted, IsStretchOf};
 ghost use Rattle.grow_core.specs.Vector.{IsPlacedOf};
@@ -46,26 +45,6 @@ pub(crate) fn write_values<'a, T: Drop, B: Kind>(
         }
     }
     (pen, left)
-}
-
-// Writes the next `n` values into the cells of the run, publishes them by one step, and returns the values that are
-// left.
-#[inline(always)]
-pub(crate) fn publish<T: Drop>(
-    pen: RunPen<'_, T>,
-    n: u64,
-    values: IntoIter<T>,
-) -> (Row<T>, IntoIter<T>)
-    requires cells { length pen.cells ≡ n }
-    requires unwritten { pen.values ≡ [] }
-    requires enough { n ≤ into_iter_len values }
-    requires counted { IsCounted values }
-    ensures filled { (xs : List T) × (length xs ≡ n) × (result.0 ≡ members_of pen.entry.cells xs)
-        × (into_iter_items values ≡ xs ++ into_iter_items result.1) }
-    ensures counted { IsCounted result.1 }
-{
-    let (pen, left) = write_values(pen, n, values);
-    (pen.publish(), left)
 }
 
 impl<T> Shared<T> {

@@ -1,6 +1,6 @@
-// Steps of a hand on places whose segments were laid since the vector was opened. Each runs an offer of the hand's seat
-// in its one atomic step, which logs its event in that step.
-ghost use Rattle.std.specs.Prelude.{◌≡◌, ◌+◌, ◌-◌, ◌%◌, ◌<◌, ◌≤◌, ℕ, [], IfOk, IfErr, Some, length};
+// Steps of a hand on places. Each runs an offer of the hand's seat in its one atomic step, which logs its event in that
+// step.
+ghost use Rattle.std.specs.Prelude.{◌≡◌, ◌+◌, ◌-◌, ◌%◌, ◌<◌, ◌≤◌, ℕ, IfOk, IfErr, Some, length};
 ghost use Rattle.std.specs.Vec.Iter.{into_iter_len};
 ghost use Rattle.tie_core.specs.Run.{run_of};
 ghost use Rattle.claim_core.specs.Hand.{HandView, OwnsPlace, seen_size};
@@ -18,7 +18,7 @@ ghost use Rattle.grow_core.specs.Shown.{look_steps, try_steps};
 ghost use Rattle.grow_core.specs.Steps.{AddsAlong, AddsAt, AreFresh, LooksAt, WorksIn};
 ghost use Rattle.grow_core.specs.Stretch.{IsCounted, Takes};
 ghost use Rattle.grow_core.specs.Ties.{IsCellOf, KnowsRow, row_at};
-ghost use Rattle.grow_core.specs.Vector.{IsHandOf, IsLaid, layout_of, limit_of};
+ghost use Rattle.grow_core.specs.Vector.{IsHandOf, layout_of, limit_of};
 
 use crate::fill::Segment;
 use crate::stretch::{Stretch, write_values};
@@ -33,8 +33,7 @@ impl<T> Shared<T> {
     // The tag of the cell at an offset of a block. It has no bytes.
     #[inline(always)]
     fn cell_tag(&self, block: &CellBlock<T>, key: &Key, place: u64, offset: u64) -> CellTag
-        requires laid { IsLaid self.now place }
-        requires cell { IsCellOf self.now.segments self.now.laid key.now block.now place offset }
+        requires cell { IsCellOf self.now.segments key.now block.now place offset }
         ensures tie { (cell_at block.now offset).tied ≡ Some result.tie }
         ensures of { IsTiedTo self.now.word result.tie }
         ensures row { IsInRow (row_at (layout_of self.now) key.now.segment block.now) place
@@ -63,9 +62,8 @@ impl<T> Shared<T> {
         offset: u64,
     ) -> Look<'a, T>
         requires ours { IsHandOf self.now claims.old }
-        requires laid { IsLaid self.now place }
         requires seen { place < seen_size claims.old }
-        requires cell { IsCellOf self.now.segments self.now.laid key.now block.now place offset }
+        requires cell { IsCellOf self.now.segments key.now block.now place offset }
         requires row { KnowsRow claims.old key.now.segment block.now }
         ensures look { IsLookAt block.now offset result }
         ensures logs { LooksAt claims.old claims.new (look_steps place result) }
@@ -116,15 +114,14 @@ impl<T> Shared<T> {
         value: T,
     ) -> Placed<T>
         requires ours { IsHandOf self.now claims.old }
-        requires laid { IsLaid self.now place }
         requires owned { OwnsPlace claims.old place }
         requires fresh { AreFresh claims.old place 1 }
-        requires cell { IsCellOf self.now.segments self.now.laid key.now block.now place offset }
+        requires cell { IsCellOf self.now.segments key.now block.now place offset }
         requires row { KnowsRow claims.old key.now.segment block.now }
         ensures placed { IsPlacedAt block.now offset result }
         ensures value { result.value ≡ value }
         ensures works { WorksIn claims.old claims.new place 1 }
-        ensures adds { AddsAt self.now claims.old claims.new place (λ index. fill_event index place) }
+        ensures adds { AddsAt claims.old claims.new place (λ index. fill_event index place) }
     {
         // For the proof: a place is of one run.
         laws::runs_are_apart();
@@ -146,14 +143,13 @@ impl<T> Shared<T> {
         offset: u64,
     ) -> Spoilt
         requires ours { IsHandOf self.now claims.old }
-        requires laid { IsLaid self.now place }
         requires owned { OwnsPlace claims.old place }
         requires fresh { AreFresh claims.old place 1 }
-        requires cell { IsCellOf self.now.segments self.now.laid key.now block.now place offset }
+        requires cell { IsCellOf self.now.segments key.now block.now place offset }
         requires row { KnowsRow claims.old key.now.segment block.now }
         ensures spoilt { IsSpoiltAt block.now offset result }
         ensures works { WorksIn claims.old claims.new place 1 }
-        ensures adds { AddsAt self.now claims.old claims.new place (λ index. break_event index place) }
+        ensures adds { AddsAt claims.old claims.new place (λ index. break_event index place) }
     {
         // For the proof: a place is of one run.
         laws::runs_are_apart();
@@ -175,9 +171,8 @@ impl<T> Shared<T> {
         offset: u64,
     ) -> Result<Pen<'a, T, Tied>, Found<T>>
         requires ours { IsHandOf self.now claims.old }
-        requires laid { IsLaid self.now place }
         requires seen { place < seen_size claims.old }
-        requires cell { IsCellOf self.now.segments self.now.laid key.now block.now place offset }
+        requires cell { IsCellOf self.now.segments key.now block.now place offset }
         requires row { KnowsRow claims.old key.now.segment block.now }
         ensures pen { IfOk result (IsPenAt block.now offset) }
         ensures broken { IfOk result IsMending }
@@ -204,9 +199,8 @@ impl<T> Shared<T> {
         value: T,
     ) -> Placed<T>
         requires ours { IsHandOf self.now claims.old }
-        requires laid { IsLaid self.now place }
         requires seen { place < seen_size claims.old }
-        requires cell { IsCellOf self.now.segments self.now.laid key.now block.now place offset }
+        requires cell { IsCellOf self.now.segments key.now block.now place offset }
         requires row { KnowsRow claims.old key.now.segment block.now }
         requires pen { IsPenAt block.now offset pen }
         ensures placed { IsPlacedAt block.now offset result }
@@ -234,7 +228,6 @@ impl<T: Drop> Shared<T> {
         n: u64,
     ) -> RunPen<'a, T, First>
         requires ours { IsHandOf self.now claims.old }
-        requires laid { IsLaid self.now place }
         requires owned { OwnsPlacesOf claims.old record { from = place; n = n } }
         requires fresh { AreFresh claims.old place n }
         requires segment { IsSegmentOf self.now segment.now }
@@ -267,19 +260,18 @@ impl<T: Drop> Shared<T> {
         pen: RunPen<'a, T, First>,
     ) -> Row<T>
         requires ours { IsHandOf self.now claims.old }
-        requires laid { IsLaid self.now place }
         requires segment { IsSegmentOf self.now segment.now }
         requires row { KnowsSegment claims.old segment.now }
         requires from { segment.now.from ≤ place }
         requires within { place + n ≤ segment.now.end }
         requires some { 0 < n }
-        requires seen { place + n ≤ seen_size claims.old }
+        requires claimed { (claims.old.of.base ≤ place) × (place + n ≤ seen_size claims.old) }
         requires run { (pen.offset ≡ place - segment.now.from)
             × (pen.cells ≡ cells_from n pen.offset segment.now.block.now.cells) }
         requires written { length pen.values ≡ n }
         ensures row { result ≡ members_of pen.entry.cells pen.entry.values }
         ensures works { WorksIn claims.old claims.new place n }
-        ensures adds { AddsAlong self.now claims.old claims.new place n (λ index. fill_steps index place n) }
+        ensures adds { AddsAlong claims.old claims.new place n (λ index. fill_steps index place n) }
     {
         // For the proof: a step on the cells of a run takes its places in order.
         laws::runs_go_in_order();
@@ -301,7 +293,6 @@ impl<T: Drop> Shared<T> {
         values: IntoIter<T>,
     ) -> (Stretch<T>, IntoIter<T>)
         requires ours { IsHandOf self.now claims.old }
-        requires laid { IsLaid self.now place }
         requires owned { OwnsPlacesOf claims.old record { from = place; n = n } }
         requires fresh { AreFresh claims.old place n }
         requires segment { IsSegmentOf self.now segment.now }
@@ -315,7 +306,7 @@ impl<T: Drop> Shared<T> {
         ensures filled { Takes self.now place values result.1 result.0 }
         ensures n { result.0.n ≡ n }
         ensures works { WorksIn claims.old claims.new place result.0.n }
-        ensures adds { AddsAlong self.now claims.old claims.new place result.0.n
+        ensures adds { AddsAlong claims.old claims.new place result.0.n
             (λ index. fill_steps index place result.0.n) }
     {
         // For the proof: the hand has seen the runs that it owns.

@@ -3,7 +3,7 @@ use cell_core::block::{Block, Tied};
 use std::alloc::Global;
 use table_core::Table;
 
-// The segments of a vector, or of a list. The entries and the cells of a list are not tied.
+// The segments of a vector, or of a list. The cells of a list have no seats: each is fixed at a stage.
 pub(crate) type SegmentTable<T> = Table<T, Tied>;
 
 // The cells of a segment.

@@ -4,16 +4,16 @@ ghost use Rattle.claim_core.specs.Word.{AreBounds};
 ghost use Rattle.claim_core.specs.Hand.{IsWholeHand, SeesSize, seen_size};
 ghost use Rattle.claim_core.specs.History.{AddsEvents, size_event};
 ghost use Rattle.seg_core.specs.Segment.{most_segments, segment_count, segment_start};
-ghost use Rattle.grow_core.specs.Closing.{AreKnownFrom, IsTakenBy};
+ghost use Rattle.grow_core.specs.Closing.{AreKnown, IsTakenBy};
 ghost use Rattle.grow_core.specs.Keys.{AreKeys, key_at, mark_of};
-ghost use Rattle.grow_core.specs.Parts.{AreLong, HasFirstKeys};
+ghost use Rattle.grow_core.specs.Parts.{AreLong, HasFirstKeys, filled_in};
 ghost use Rattle.grow_core.specs.Steps.{FindsMore};
 ghost use Rattle.grow_core.specs.Vector.{IsHandOf, BeginsAsOpened, vector_of, limit_of, layout_of, base_of};
 
 use crate::hand::Hand;
 use crate::keys::Keys;
 use crate::ties::SegmentTable;
-use cell_core::block::{EndedEpoch, Row};
+use cell_core::block::Row;
 use claim_core::{CellTag, RowTags, Word, laws};
 use seg_core::Layout;
 use std::alloc::Global;
@@ -29,16 +29,13 @@ pub struct Shared<T> {
     pub(crate) keys: Keys,
     pub(crate) count: u32,
     pub(crate) row: Row<T>,
-    // The epoch of the list has ended: its broken members may be mended.
-    pub(crate) ended: EndedEpoch,
     pub(crate) alloc: Global,
-    // How the cells of the later segments are tied, and their entries, in order. Neither has bytes.
+    // How the cells of the segments are tied, and their entries, in order. Neither has bytes.
     pub(crate) cells: CellTag,
     pub(crate) tags: RowTags,
 }
 
 impl<T> Model for Shared<T> {
-    ghost use Rattle.seg_core.specs.Segment.{segment_start};
     ghost use Rattle.grow_core.specs.Parts.{values_in};
     ghost use Rattle.grow_core.specs.Vector.{VectorView, vector_coded, IsShared};
 
@@ -50,10 +47,9 @@ impl<T> Model for Shared<T> {
       word = v.word;
       segments = v.table;
       opened = values_in v.row;
-      laid = segment_start v.table.layout v.count;
     } };
 
-    ghost invariant = { λ v. IsShared v.word v.table v.keys v.row v.ended v.count v.cells.tie v.tags };
+    ghost invariant = { λ v. IsShared v.word v.table v.keys v.row v.count v.cells.tie v.tags };
 }
 
 // By hand, so that proofs of callers do not go into its fields.
@@ -65,7 +61,6 @@ impl<T: Drop> Drop for Shared<T> {
             keys: _,
             count: _,
             row: _,
-            ended: _,
             alloc: _,
             cells: _,
             tags: _,
@@ -75,31 +70,22 @@ impl<T: Drop> Drop for Shared<T> {
 
 impl<T> Shared<T> {
     // Takes the vector apart for a close. The hand finds the keys of the first segments, with all places. Returns the word,
-    // the segments, how many of them the opened list brought, what is known of that list, and how later cells are tied;
-    // then the keys, and how many there are.
+    // the segments, what is known of the opened list, and how cells are tied; then the keys, and how many there are.
     pub(crate) fn take_apart_by(
         self,
         hand: &mut Hand<T>,
-    ) -> (
-        Word<Global>,
-        SegmentTable<T>,
-        u32,
-        Row<T>,
-        CellTag,
-        Keys,
-        u32,
-    )
+    ) -> (Word<Global>, SegmentTable<T>, Row<T>, CellTag, Keys, u32)
         requires ours { IsHandOf self hand.old }
         requires whole { IsWholeHand hand.old }
-        ensures parts { self ≡ vector_of result.0 result.1 result.3 result.2 }
-        ensures its { IsTakenBy result.0 result.1 result.3 result.2 result.4.tie result.5 result.6 }
-        ensures named { AreKeys (mark_of result.1) result.5 }
-        ensures long { AreLong (layout_of self) result.5 }
-        ensures there { HasFirstKeys result.5 result.6 }
-        ensures few { result.6 ≤ segment_count (layout_of self) }
-        ensures none { (s : ℕ) → s < most_segments → result.6 ≤ s → key_at result.5 s ≡ None }
-        ensures all { seen_size hand.old ≤ segment_start (layout_of self) result.6 }
-        ensures rows { AreKnownFrom 0 self.segments self.laid hand.new result.5 }
+        ensures parts { self ≡ vector_of result.0 result.1 result.2 }
+        ensures its { IsTakenBy result.0 result.1 result.2 result.3.tie result.4 result.5 }
+        ensures named { AreKeys (mark_of result.1) result.4 }
+        ensures long { AreLong (layout_of self) result.4 }
+        ensures there { HasFirstKeys result.4 result.5 }
+        ensures few { result.5 ≤ segment_count (layout_of self) }
+        ensures none { (s : ℕ) → s < most_segments → result.5 ≤ s → key_at result.4 s ≡ None }
+        ensures all { seen_size hand.old ≤ segment_start (layout_of self) result.5 }
+        ensures rows { AreKnown self.segments hand.new result.4 }
         ensures finds { FindsMore hand.old hand.new }
         ensures log { hand.new.log ≡ hand.old.log }
     {
@@ -108,14 +94,13 @@ impl<T> Shared<T> {
             word,
             table,
             keys: _,
-            count,
+            count: _,
             row,
-            ended: _,
             alloc: _,
             cells,
             tags: _,
         } = self;
-        (word, table, count, row, cells, before, n)
+        (word, table, row, cells, before, n)
     }
 }
 
@@ -148,10 +133,9 @@ impl<T> Shared<T> {
     pub fn laws(&self)
         ensures bounds { AreBounds (limit_of self.now) (base_of self.now) }
         ensures opened { length self.now.opened ≡ base_of self.now }
-        // The list lies in segments that it brought.
-        ensures laid { base_of self.now ≤ self.now.laid }
         // In the history a value is named by its place.
         ensures first { BeginsAsOpened self.now }
+        ensures filled { self.now.word.filled ≡ filled_in self.now.opened }
     {
         // For the proof: reading a field shows the type's invariant.
         let _table = &self.table;

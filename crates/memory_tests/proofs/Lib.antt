@@ -3,3 +3,5 @@ mod StepsInARow
 mod InOrder
 mod OffersInARow
 mod RunsOffered
+mod ListsOpened
+mod StepsOpened

@@ -1,25 +1,28 @@
 -- Steps of a hand on a tied cell, by what it gains at each.
-use Rattle.std.proofs.Common.{◌≡◌, ◌≢◌, ℕ, Option, Some, None, List, [], ◌∷◌, refl, ap, sym, ◌∙◌, subst, arith}
+use Rattle.std.proofs.Common.{◌≡◌, ℕ, ◌≤◌, Option, Some, None, List, [], ◌∷◌, ◌++◌, refl, ap, sym, ◌∙◌, subst, arith}
 use Rattle.std.specs.Prelude.{Result, Ok, Err, IfOk, IfErr}
 use Rattle.atomic_table.specs.Seated.{TableId}
 use Rattle.tie_core.specs.Tie.{Stage, Idle, Begun, Mending, Filled, Broken, Made, Step, Shows, IsMade, HasMade, mends}
 use Rattle.cell_core.specs.declared.block.shown.Found.{Found}
 use Rattle.cell_core.specs.declared.block.shown.Found.TheVariants as found
+use Rattle.cell_core.specs.Block.{IsBrokenState}
 use Rattle.cell_core.specs.Shown.{IsFoundOf, IsNotBroken}
+use Rattle.cell_core.specs.Slot.{filled_state}
 use Rattle.claim_core.specs.declared.role.CellStage.TheVariants as stages
 use Rattle.claim_core.specs.declared.role.RowAt.{RowAt}
 use Rattle.claim_core.specs.declared.seat_view.SeatView.{SeatView}
 use Rattle.claim_core.specs.Lengths.{InRun}
-use Rattle.claim_core.specs.History.{AddsEvents, fill_event, mend_event}
+use Rattle.claim_core.specs.History.{AddsEvents, fill_event, mend_event, mender_of}
 use Rattle.claim_core.specs.Laws.{RunsAreApart, EventsFollow}
 use Rattle.claim_core.specs.Word.{WordView}
 use Rattle.claim_core.specs.Hand.{HandView, OwnsPlace, seen_size}
 use Rattle.claim_core.specs.Lent.{lent_hand, seat_hand}
 use Rattle.claim_core.specs.Gain.{Gain, Gains, GainsBy, IsLent, HasSeenPlace, an_event, a_begin}
-use Rattle.claim_core.specs.Plays.{cell_stage, look_gains, begin_gains, fill_gains, mend_gains}
+use Rattle.claim_core.specs.Plays.{cell_stage, look_gains, begin_gains, fill_gains, fill_mended_gains, mend_gains}
 use Rattle.claim_core.specs.SeatSteps.{look_event, try_event}
 use Rattle.claim_core.specs.Ties.{Finds}
 use Rattle.memory_tests.specs.Offers.{HasLooked, HasFilled, HasTried, found_stage}
+use Rattle.memory_tests.specs.Opened.{GoesOn}
 
 -- an update that a step has run is made
 pub is_made : (step : Step) (n : ℕ) (made : Option Made) → HasMade step n made → IsMade made
@@ -89,17 +92,18 @@ filled apart follow told place floor table v made old mid new owns first seat ha
     (subst (λ (u : ℕ × Option Made). GainsBy (fill_gains u.0 v) u.1 mid new) (λ i. (is i, has i)) gains)
 
 -- a try to mend has run its update
-pub tried_made : {P T : Type 0} (made : Option Made) (result : Result P (Found T)) → IfOk result (λ _. HasMade mends 5 made)
-    → IfErr result (λ it. (n : ℕ) × HasMade mends n made × (n ≢ 5) × IsFoundOf n it) → IsMade made
-tried_made made (Ok pen) won lost = is_made mends 5 made won
+pub tried_made : {P T : Type 0} (made : Option Made) (result : Result P (Found T)) → IfOk result (λ _. (n : ℕ) × IsBrokenState n × HasMade mends n made)
+    → IfErr result (λ it. (n : ℕ) × HasMade mends n made × (n ≤ filled_state) × IsFoundOf n it) → IsMade made
+tried_made made (Ok pen) won lost = is_made mends (won.0) made (won.2)
 tried_made made (Err it) won lost = is_made mends (lost.0) made (lost.1)
 
-broken_at_five : (a : Stage) → Shows a 5 → a ≡ Broken
-broken_at_five Idle shows = absurd (let z : 5 ≡ 0 = shows in omega (arith, z))
-broken_at_five Begun shows = absurd (let z : 5 ≡ 0 = shows in omega (arith, z))
-broken_at_five Mending shows = absurd (let z : 5 ≡ 1 = shows in omega (arith, z))
-broken_at_five Filled shows = absurd (let z : 5 ≡ 3 = shows in omega (arith, z))
-broken_at_five Broken shows = refl
+-- a state above that of a filled cell shows a broken one
+is_broken_stage : (a : Stage) (n : ℕ) → IsBrokenState n → Shows a n → a ≡ Broken
+is_broken_stage Idle n more shows = absurd (omega (arith, more, shows))
+is_broken_stage Begun n more shows = absurd (omega (arith, more, shows))
+is_broken_stage Mending n more shows = absurd (omega (arith, more, shows))
+is_broken_stage Filled n more shows = absurd (omega (arith, more, shows))
+is_broken_stage Broken n more shows = refl
 
 -- one that leaves the stage shows what a look shows
 try_is_look : (limit place : ℕ) (a b : Stage) → b ≡ a → try_event limit place (cell_stage a) (cell_stage b) ≡ look_event place (cell_stage a)
@@ -133,12 +137,13 @@ look_is_found place n Broken (found.Broken spoilt) shows of = refl
 
 -- after a try to mend
 pub tried : {P T : Type 0} (told place floor : ℕ) (table : TableId) (v : SeatView) (made : Option Made) (old new : HandView) (result : Result P (Found T))
-    → told ≡ place → seat_hand floor table v ≡ old → IfOk result (λ _. HasMade mends 5 made)
-    → IfErr result (λ it. (n : ℕ) × HasMade mends n made × (n ≢ 5) × IsFoundOf n it) → IfErr result IsNotBroken
+    → told ≡ place → seat_hand floor table v ≡ old → IfOk result (λ _. (n : ℕ) × IsBrokenState n × HasMade mends n made)
+    → IfErr result (λ it. (n : ℕ) × HasMade mends n made × (n ≤ filled_state) × IsFoundOf n it) → IfErr result IsNotBroken
     → GainsBy (mend_gains told v) made old new → HasTried place old new result
 tried told place floor table v None old new result is seat won lost whole gains = absurd gains
 tried told place floor table v (Some m) old new (Ok pen) is seat won lost whole gains =
-    let from : m.0 ≡ Broken = broken_at_five (m.0) (won.0.0) in let to : m.1 ≡ Mending = won.0.1 refl in
+    let moves = won.2.0 in
+    let from : m.0 ≡ Broken = is_broken_stage (m.0) (won.0) (won.1) (moves.0) in let to : m.1 ≡ Mending = moves.1 (won.1) in
     let limit : v.limit ≡ old.of.limit = ap (λ (h : HandView). h.of.limit) seat in
     let event : try_event v.limit told (cell_stage (m.0)) (cell_stage (m.1)) ≡ mend_event old.of.limit place =
     λ i. try_event (limit i) (is i) (cell_stage (from i)) (cell_stage (to i)) in
@@ -153,3 +158,46 @@ tried told place floor table v (Some m) old new (Err it) is seat won lost whole 
 -- a hand that has lent its seat has seen the size that it had seen
 pub lent_seen : (hand : HandView) → seen_size (lent_hand hand) ≡ seen_size hand
 lent_seen hand = omega arith
+
+-- ---- A hand that goes on after a step on a cell
+
+-- it has gained events alone
+goes_on : (gain : Gain) (old new : HandView) → gain.begun ≡ [] → gain.rows ≡ [] → Gains gain old new → GoesOn old new
+goes_on gain old new begun rows gains = record {
+  of = gains.of;
+  seen = gains.seen;
+  mine = gains.mine;
+  shares = gains.shares;
+  begun = gains.begun ∙ ap (λ (l : List ℕ). l ++ old.begun) begun;
+  rows = gains.rows ∙ ap (λ (l : List RowAt). l ++ old.rows) rows;
+}
+
+pub looked_on : (told : ℕ) (v : SeatView) (made : Option Made) (old new : HandView) → GainsBy (look_gains told v) made old new → GoesOn old new
+looked_on told v None old new gains = absurd gains
+looked_on told v (Some m) old new gains = goes_on (gains.0) old new (ap (λ (g : Gain). g.begun) (gains.1)) (ap (λ (g : Gain). g.rows) (gains.1)) (gains.2)
+
+pub tried_on : (told : ℕ) (v : SeatView) (made : Option Made) (old new : HandView) → GainsBy (mend_gains told v) made old new → GoesOn old new
+tried_on told v None old new gains = absurd gains
+tried_on told v (Some m) old new gains = goes_on (gains.0) old new (ap (λ (g : Gain). g.begun) (gains.1)) (ap (λ (g : Gain). g.rows) (gains.1)) (gains.2)
+
+pub mended_on : (told : ℕ) (v : SeatView) (made : Option Made) (old new : HandView) → GainsBy (fill_mended_gains told v) made old new → GoesOn old new
+mended_on told v None old new gains = absurd gains
+mended_on told v (Some m) old new gains =
+    let is = gains.1.2 in
+    goes_on (gains.0) old new (ap (λ (g : Gain). g.begun) is) (ap (λ (g : Gain). g.rows) is) (gains.2)
+
+-- after the mender's fill
+pub mender_filled : (told place floor : ℕ) (table : TableId) (v : SeatView) (made : Option Made) (old new : HandView) → told ≡ place → seat_hand floor table v ≡ old
+    → made ≡ Some (Mending, Filled) → GainsBy (fill_mended_gains told v) made old new → AddsEvents old.log (fill_event (mender_of old.of.limit place) place ∷ []) new.log
+mender_filled told place floor table v made old new is seat has gains =
+    let here : GainsBy (fill_mended_gains place v) (Some (Mending, Filled)) old new =
+    subst (λ (u : ℕ × Option Made). GainsBy (fill_mended_gains u.0 v) u.1 old new) (λ i. (is i, has i)) gains in
+    let gain_is : here.0 ≡ an_event (fill_event (mender_of v.limit place) place) = here.1.2 in
+    let limit : v.limit ≡ old.of.limit = ap (λ (h : HandView). h.of.limit) seat in
+    subst (λ (n : ℕ). AddsEvents old.log (fill_event (mender_of n place) place ∷ []) new.log) limit
+    (subst (λ (g : Gain). Gains g old new) gain_is (here.2)).log
+
+-- after a fill, the hand is one of the same word
+pub of_same_word : (told : ℕ) (v : SeatView) (made : Option Made) (old new : HandView) → GainsBy (fill_gains told v) made old new → new.of ≡ old.of
+of_same_word told v None old new gains = absurd gains
+of_same_word told v (Some m) old new gains = gains.2.of

@@ -1,5 +1,5 @@
 -- Steps of a hand on a cell and its entry, by the public laws of the word's rule.
-use Rattle.std.proofs.Common.{◌≡◌, ◌≢◌, ℕ, zero, suc, ◌+◌, ◌<◌, List, [], ◌∷◌, ◌++◌, length, length-append, set, refl, ap, sym, ◌∙◌, subst, inl, inr, arith}
+use Rattle.std.proofs.Common.{◌≡◌, ◌≢◌, ℕ, zero, suc, ◌+◌, ◌<◌, ◌≤◌, List, [], ◌∷◌, ◌++◌, length, length-append, set, refl, ap, sym, ◌∙◌, subst, inl, inr, arith}
 use mathlib.Core.Option.{some, some-injective, some-ne-none}
 use lib.ListN.{get_elem?}
 use Rattle.claim_core.specs.declared.role.CellStage.{CellStage}
@@ -122,7 +122,8 @@ hand_stays terms v w hand limit base filled shares =
 
 pub published : EntriesArePermitted → LayingIsPermitted → PublishingIsPermitted → PlacesArePublished
 published enters lays publishes terms s id place v hand whole unlaid past kept at =
-    let made = enters terms id place 1 v hand whole unlaid s kept at in
+    let base : v.base ≤ place = (let b = hand.base in omega (arith, b, past)) in
+    let made = enters terms id place 1 v hand whole unlaid base s kept at in
     let w = made.0 in
     let same = made.2.same in
     let now = hand_stays terms v w hand same.limit same.base same.filled same.shares in
@@ -144,7 +145,7 @@ published enters lays publishes terms s id place v hand whole unlaid past kept a
     let block_two : get_elem? two.views (length cells) ≡ some block = view_last cells block in
     let first = length one.views in
     let row : RowAt = record { from = place; n = 1; seat = first } in
-    let after = publishes terms id (length front) (length cells) place first 1 w now (let b = now.base in omega arith) two laid at_two entry_two block_two in
+    let after = publishes terms id (length front) (length cells) place first 1 w now two laid at_two entry_two block_two in
     let u = after.0 in
     let learns = after.2 in
     let hand_now = hand_stays terms w u now learns.same.limit learns.same.base learns.same.filled learns.same.shares in

@@ -2,7 +2,7 @@ mod counts;
 mod hands;
 mod keys;
 mod looks;
-mod offers;
+pub(crate) mod offers;
 mod owners;
 mod race;
 mod run_offers;

@@ -10,6 +10,8 @@ mod claim;
 #[cfg(test)]
 mod opaque;
 #[cfg(test)]
+mod opened;
+#[cfg(test)]
 mod table;
 #[cfg(test)]
 mod ties;

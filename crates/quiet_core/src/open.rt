@@ -8,27 +8,6 @@ use crate::quiet::Quiet;
 use grow_core::{Hand, OpenError, Placed, Shared};
 
 impl<T> Quiet<T> {
-    /// Opens the list into a vector that begins with its members, with the hand that has all shares. It moves
-    /// no member and looks at none: it takes two small allocations, at any length. The only refusal is out of
-    /// memory, and it gives the list back unchanged.
-    pub fn open(self) -> Result<(Shared<T>, Hand<T>), (Quiet<T>, OpenError)>
-        ensures opened { IfOk result (λ (vector, _). vector.opened ≡ self.members) }
-        ensures limit { IfOk result (λ (vector, _). limit_of vector ≡ self.limit) }
-        ensures layout { IfOk result (λ (vector, _). layout_of vector ≡ self.layout) }
-        ensures base { IfOk result (λ (vector, _). base_of vector ≡ length self.members) }
-        // The history tells what is done at a place if its segment is laid after this.
-        ensures laid { IfOk result (λ (vector, _). vector.laid ≡ self.capacity) }
-        ensures hand { IfOk result (λ (vector, hand). IsNewHand vector.word hand) }
-        ensures back { IfErr result (λ (back, _). back ≡ self) }
-        ensures no_memory { IfErr result (λ (_, error). error ≡ OpenError.NoMemory) }
-    {
-        let parts = self.into_parts();
-        match Shared::of_parts(parts) {
-            Ok(opened) => Ok(opened),
-            Err((parts, error)) => Err((Quiet { parts }, error)),
-        }
-    }
-
     /// Returns the token's value, which is the list's member at its place. The list must have been closed
     /// from the token's vector and be unchanged since. A caller knows that the place is below the length if
     /// it has seen the place claimed.
@@ -43,6 +22,25 @@ impl<T> Quiet<T> {
 }
 
 impl<T: Drop> Quiet<T> {
+    /// Opens the list into a vector that begins with its members, with the hand that has all shares. It moves
+    /// no member and looks at none: it takes two small allocations, at any length, and a time that depends
+    /// on the number of segments alone. The only refusal is out of memory, and it gives the list back unchanged.
+    pub fn open(self) -> Result<(Shared<T>, Hand<T>), (Quiet<T>, OpenError)>
+        ensures opened { IfOk result (λ (vector, _). vector.opened ≡ self.members) }
+        ensures limit { IfOk result (λ (vector, _). limit_of vector ≡ self.limit) }
+        ensures layout { IfOk result (λ (vector, _). layout_of vector ≡ self.layout) }
+        ensures base { IfOk result (λ (vector, _). base_of vector ≡ length self.members) }
+        ensures hand { IfOk result (λ (vector, hand). IsNewHand vector.word hand) }
+        ensures back { IfErr result (λ (back, _). back ≡ self) }
+        ensures no_memory { IfErr result (λ (_, error). error ≡ OpenError.NoMemory) }
+    {
+        let parts = self.into_parts();
+        match Shared::of_parts(parts) {
+            Ok(opened) => Ok(opened),
+            Err((parts, error)) => Err((Quiet { parts }, error)),
+        }
+    }
+
     /// Closes the vector into the list of its values, as long as its size. A place that was claimed but never
     /// filled is broken. It moves no value and takes no memory; its time is linear in the size. The capacity
     /// is that of the installed segments. A vector that lost a hand cannot be closed; it is dropped with its

@@ -98,13 +98,13 @@ abbrev pub IsTeamOf : WordView → ℕ → ℕ → Team → Type 0
 IsTeamOf word each worker = IsTeam word 1 (worker * each) ((worker + 1) * each)
 
 -- the history gets the claim and the fill of each win's place, in order
-abbrev pub LogsWins : VectorView ℕ → HandView → HandView → List Win → Type 0
-LogsWins vector old new [] = LogsNothing old new
-LogsWins vector old new (win ∷ wins) = (mid : HandView) × LogsPush vector old mid win.place × LogsWins vector mid new wins
+abbrev pub LogsWins : HandView → HandView → List Win → Type 0
+LogsWins old new [] = LogsNothing old new
+LogsWins old new (win ∷ wins) = (mid : HandView) × LogsPush old mid win.place × LogsWins mid new wins
 
 -- these wins come behind the others, and the history gets theirs
-abbrev pub LogsMoreWins : VectorView ℕ → HandView → HandView → List Win → List Win → Type 0
-LogsMoreWins vector old new before after = (won : List Win) × (after ≡ before ++ won) × LogsWins vector old new won
+abbrev pub LogsMoreWins : HandView → HandView → List Win → List Win → Type 0
+LogsMoreWins old new before after = (won : List Win) × (after ≡ before ++ won) × LogsWins old new won
 
 -- what a race reports of a range of workers that has no result
 abbrev pub race_refusal : Refusal RaceError → RaceError

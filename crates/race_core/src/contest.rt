@@ -62,7 +62,7 @@ fn win_all<R: Threads + Wait + Sync, G: Gate + Sync>(
         ensures own { SeesOwn hand.new }
         ensures answer { IfOk result
             (λ wins. IsTeamOf vector.entry.now.word each worker (team_of hand.new wins.items)) }
-        ensures logs { IfOk result (λ wins. LogsWins vector.entry.now hand.old hand.new wins.items) }
+        ensures logs { IfOk result (λ wins. LogsWins hand.old hand.new wins.items) }
         ensures refused { IfErr result IsWorkers }
     { append_each(rt, alloc, gate, vector, worker, each, hand) };
     let teams = with_hands(rt, alloc, vector, hand, workers, &work, gate)?;

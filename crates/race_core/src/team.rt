@@ -49,7 +49,7 @@ fn push_value<R: Wait>(
         (IsTeam vector.now.word shares from (value + 1) (team_of hand.new wins.new.items)) }
     // The history gets the claim and the fill of the win's place.
     ensures logs { OnOk result
-        (LogsMoreWins vector.now hand.old hand.new wins.old.items wins.new.items) }
+        (LogsMoreWins hand.old hand.new wins.old.items wins.new.items) }
 {
     // For the proof: the new place is the last of those that the hand knows, and its others stay.
     hand.laws();
@@ -94,7 +94,7 @@ pub(crate) fn push_all<R: Wait, G: Gate>(
         → OnOk result (IsTeam vector.now.word shares from to (team_of hand.new wins.new.items)) }
     // The history gets the claims and the fills of the wins' places, in order.
     ensures logs { OnOk result
-        (LogsMoreWins vector.now hand.old hand.new wins.old.items wins.new.items) }
+        (LogsMoreWins hand.old hand.new wins.old.items wins.new.items) }
 {
     // For the proof: the condition speaks of the gate.
     let _gate = gate;

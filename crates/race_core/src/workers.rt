@@ -33,7 +33,7 @@ pub(crate) fn append_each<R: Wait, G: Gate>(
     ensures answer { IfOk result
         (λ wins. IsTeamOf vector.now.word each worker (team_of hand.new wins.items)) }
     // The history gets the claims and the fills of the wins' places, in order.
-    ensures logs { IfOk result (λ wins. LogsWins vector.now hand.old hand.new wins.items) }
+    ensures logs { IfOk result (λ wins. LogsWins hand.old hand.new wins.items) }
     ensures refused { IfErr result IsWorkers }
 {
     let from = u64::from(worker) * each;

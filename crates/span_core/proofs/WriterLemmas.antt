@@ -3,7 +3,6 @@ use Rattle.std.proofs.Common.{◌≡◌, ℕ, suc, ◌+◌, [], ◌∷◌, ◌++
 use mathlib.Core.List.{IsPrefix}
 use Rattle.claim_core.specs.Laws.{AddedPlacesAddUp}
 use Rattle.claim_core.specs.Hand.{HandView, AddsRun, SeesOwn, single}
-use Rattle.grow_core.specs.Vector.{VectorView}
 use Rattle.grow_core.specs.Logs.{LogsPush}
 use Rattle.span_core.specs.Writer.{AddsPlaces, LogsPushes}
 use Rattle.span_core.proofs.HandLemmas.{prefix_trans}
@@ -21,14 +20,9 @@ adds_next law old mid new n place sees done next =
       places = (let added = law mid new (single place) sees next in let before = done.places in omega arith);
     }
 
--- a push of the same vector
-pub push_in : {T : Type 0} → (v w : VectorView T) (old new : HandView) (place : ℕ) → v ≡ w → LogsPush v old new place
-    → LogsPush w old new place
-push_in v w old new place same push = subst (λ (x : VectorView _). LogsPush x old new place) same push
-
 -- one more push
-pub pushes_next : {T : Type 0} → (v : VectorView T) (old mid new : HandView) (n place : ℕ) → LogsPushes v old mid n
-    → AddsRun mid new (single place) → LogsPush v mid new place → LogsPushes v old new (n + 1)
-pushes_next v old mid new n place pushes won push =
+pub pushes_next : (old mid new : HandView) (n place : ℕ) → LogsPushes old mid n
+    → AddsRun mid new (single place) → LogsPush mid new place → LogsPushes old new (n + 1)
+pushes_next old mid new n place pushes won push =
     let next : suc n ≡ n + 1 = omega arith in
-    subst (λ (k : ℕ). LogsPushes v old new k) next (mid, place, pushes, won, push)
+    subst (λ (k : ℕ). LogsPushes old new k) next (mid, place, pushes, won, push)

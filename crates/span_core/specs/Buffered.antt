@@ -34,7 +34,7 @@ Pushes old new value (Some grown) =
 -- the history of the writer's hand gets the growth of what was flushed, or the hand is as it was
 abbrev pub LogsFlush : {T : Type 0} → WriterView T → WriterView T → Option (GrownView T) → Type 0
 LogsFlush old new None = new.hand ≡ old.hand
-LogsFlush old new (Some grown) = LogsGrowth old.vector AllFilled old.hand new.hand grown.run
+LogsFlush old new (Some grown) = LogsGrowth AllFilled old.hand new.hand grown.run
 
 -- what a refused growth of buffered values leaves in the buffer: all of them, or nothing if a place was taken
 abbrev pub LeavesBuffer : {T V E : Type 0} → List T → List T → GrowError T V E → Type 0

@@ -57,14 +57,14 @@ StopsAppending {S} {T} steps items vector old new stop =
     × AddsPlaces old between stop.0 × Refuses vector 1 value between new stop.1
 
 -- n pushes: the hand owns one more place after each, and the history gets its claim and its fill
-abbrev pub LogsPushes : {T : Type 0} → VectorView T → HandView → HandView → ℕ → Type 0
-LogsPushes vector old new zero = LogsNothing old new
-LogsPushes vector old new (suc n) =
-    (mid : HandView) × (place : ℕ) × LogsPushes vector old mid n × AddsRun mid new (single place)
-    × LogsPush vector mid new place
+abbrev pub LogsPushes : HandView → HandView → ℕ → Type 0
+LogsPushes old new zero = LogsNothing old new
+LogsPushes old new (suc n) =
+    (mid : HandView) × (place : ℕ) × LogsPushes old mid n × AddsRun mid new (single place)
+    × LogsPush mid new place
 
 -- n pushes, and then one that was refused
 abbrev pub StopsPushing : {T E : Type 0} → VectorView T → HandView → HandView → ℕ × GrowError T T E → Type 0
 StopsPushing {T} vector old new stop =
-    (between : HandView) × (value : T) × LogsPushes vector old between stop.0
-    × Refuses vector 1 value between new stop.1 × LogsRefusal vector 1 between new stop.1
+    (between : HandView) × (value : T) × LogsPushes old between stop.0
+    × Refuses vector 1 value between new stop.1 × LogsRefusal 1 between new stop.1

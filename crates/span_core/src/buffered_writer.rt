@@ -118,10 +118,10 @@ impl<'a, T: Drop, B: Tie> BufferedWriter<'a, T, B> {
         // The history gets the claim of the run and what became of its places, or the event whose reply the
         // refusal is.
         ensures logs { IfOk result
-            (λ grown. LogsGrowth self.old.writer.vector AllFilled
+            (λ grown. LogsGrowth AllFilled
             self.old.writer.hand self.new.writer.hand grown.run) }
         ensures logs_refusal { IfErr result
-            (LogsRefusal self.old.writer.vector (length self.old.buffered)
+            (LogsRefusal (length self.old.buffered)
             self.old.writer.hand self.new.writer.hand) }
         ensures rest_kept { self.new ≡ record self.old {
           buffered = self.new.buffered;
@@ -154,7 +154,7 @@ impl<'a, T: Drop, B: Tie> BufferedWriter<'a, T, B> {
         ensures logs { IfOk result (LogsFlush self.old.writer self.new.writer) }
         ensures logs_refusal { IfErr result (λ (error, _).
             (self.new.writer.hand ≡ self.old.writer.hand)
-            ⊎ LogsRefusal self.old.writer.vector (length self.old.buffered)
+            ⊎ LogsRefusal (length self.old.buffered)
             self.old.writer.hand self.new.writer.hand error) }
         ensures rest_kept { self.new ≡ record self.old {
           buffered = self.new.buffered;
@@ -189,7 +189,7 @@ impl<'a, T: Drop, B: Tie> BufferedWriter<'a, T, B> {
         ensures logs { IfOk result (LogsFlush self.old.writer self.new.writer) }
         ensures logs_refusal { IfErr result (λ (error, _).
             (self.new.writer.hand ≡ self.old.writer.hand)
-            ⊎ LogsRefusal self.old.writer.vector (length self.old.buffered)
+            ⊎ LogsRefusal (length self.old.buffered)
             self.old.writer.hand self.new.writer.hand error) }
         ensures rest_kept { self.new ≡ record self.old {
           buffered = self.new.buffered;
@@ -237,10 +237,10 @@ fn append_all<T: Drop, B: Tie, R: Wait>(
         → IsErrAnd result SaysFull }
     ensures not_moved { IfErr result IsNotMoved }
     ensures logs { IfOk result
-        (λ grown. LogsGrowth writer.old.vector AllFilled
+        (λ grown. LogsGrowth AllFilled
         writer.old.hand writer.new.hand grown.run) }
     ensures logs_refusal { IfErr result
-        (LogsRefusal writer.old.vector (vec_len buffer.old) writer.old.hand writer.new.hand) }
+        (LogsRefusal (vec_len buffer.old) writer.old.hand writer.new.hand) }
     ensures vector { writer.new.vector ≡ writer.old.vector }
 {
     let values = mem::replace(buffer, room);

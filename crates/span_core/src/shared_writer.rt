@@ -5,7 +5,7 @@ ghost use mathlib.Core.List.{IsPrefix};
 ghost use Rattle.seg_core.specs.Segment.{most_places};
 ghost use Rattle.claim_core.specs.Hand.{IsWholeHand, KeepsOwn, OwnApart, SeesSize, seen_size};
 ghost use Rattle.claim_core.specs.History.{AddsEvents, size_event};
-ghost use Rattle.grow_core.specs.Vector.{IsHandOf, IsOpenedAt, IsPlacedOf, SeesMore, base_of, limit_of, layout_of, IsLaid};
+ghost use Rattle.grow_core.specs.Vector.{IsHandOf, IsOpenedAt, IsPlacedOf, SeesMore, base_of, limit_of, layout_of};
 ghost use Rattle.grow_core.specs.Closing.{KeepsValues, IsClosedFrom, IsListOfHistory};
 ghost use Rattle.grow_core.specs.Logs.{LogsNothing, LogsAtRefusal, LogsValue, LogsNoValue, IsFinishedIn};
 ghost use Rattle.grow_core.specs.Read.{IsShownAt, ShowsValue, IsDueAt, IsInRange};
@@ -123,11 +123,11 @@ impl<T> SharedWriter<T> {
         // A read with a token adds nothing. One without adds its look, with what it returned.
         ensures token { IsSome known.entry → self.new.hand ≡ self.old.hand }
         ensures looks { known.entry ≡ None
-            → IfOk result (λ _. LogsValue self.old.vector place self.old.hand self.new.hand) }
+            → IfOk result (λ _. LogsValue place self.old.hand self.new.hand) }
         ensures looks_refusal { known.entry ≡ None
-            → IfErr result (LogsNoValue self.old.vector place self.old.hand self.new.hand) }
+            → IfErr result (LogsNoValue place self.old.hand self.new.hand) }
         // A caller that has seen the place filled in the history finds it filled.
-        ensures finished { IsFinishedIn self.old.hand.log place → IsLaid self.old.vector place
+        ensures finished { IsFinishedIn self.old.hand.log place
             → IsOk result }
         ensures vector { self.new.vector ≡ self.old.vector }
     {

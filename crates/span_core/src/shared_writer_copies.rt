@@ -21,9 +21,9 @@ impl<T: Copy> SharedWriter<T> {
         // The history gets the claim of the run and what became of its places, or the event whose reply the
         // refusal is.
         ensures logs { IfOk result
-            (λ grown. LogsGrowth self.old.vector AllFilled self.old.hand self.new.hand grown.run) }
+            (λ grown. LogsGrowth AllFilled self.old.hand self.new.hand grown.run) }
         ensures logs_refusal { IfErr result
-            (LogsRefusal self.old.vector (length values.now) self.old.hand self.new.hand) }
+            (LogsRefusal (length values.now) self.old.hand self.new.hand) }
         ensures vector { self.new.vector ≡ self.old.vector }
     {
         self.vector.try_grow_from(&mut self.hand, values)
@@ -44,9 +44,9 @@ impl<T: Copy> SharedWriter<T> {
         // The history gets the claim of the run and what became of its places, or the event whose reply the
         // refusal is.
         ensures logs { IfOk result
-            (λ grown. LogsGrowth self.old.vector AllFilled self.old.hand self.new.hand grown.run) }
+            (λ grown. LogsGrowth AllFilled self.old.hand self.new.hand grown.run) }
         ensures logs_refusal { IfErr result
-            (LogsRefusal self.old.vector (length values.now) self.old.hand self.new.hand) }
+            (LogsRefusal (length values.now) self.old.hand self.new.hand) }
         ensures vector { self.new.vector ≡ self.old.vector }
     {
         self.vector.grow_from(rt, &mut self.hand, values)
@@ -62,9 +62,9 @@ impl<T: Copy> SharedWriter<T> {
         // The history gets the claim of the run and what became of its places, or the event whose reply the
         // refusal is.
         ensures logs { IfOk result
-            (λ grown. LogsGrowth self.old.vector AllFilled self.old.hand self.new.hand grown.run) }
+            (λ grown. LogsGrowth AllFilled self.old.hand self.new.hand grown.run) }
         ensures logs_refusal { IfErr result
-            (LogsRefusal self.old.vector n self.old.hand self.new.hand) }
+            (LogsRefusal n self.old.hand self.new.hand) }
         ensures vector { self.new.vector ≡ self.old.vector }
     {
         self.vector.try_grow_copies(&mut self.hand, n, value)
@@ -85,9 +85,9 @@ impl<T: Copy> SharedWriter<T> {
         // The history gets the claim of the run and what became of its places, or the event whose reply the
         // refusal is.
         ensures logs { IfOk result
-            (λ grown. LogsGrowth self.old.vector AllFilled self.old.hand self.new.hand grown.run) }
+            (λ grown. LogsGrowth AllFilled self.old.hand self.new.hand grown.run) }
         ensures logs_refusal { IfErr result
-            (LogsRefusal self.old.vector n self.old.hand self.new.hand) }
+            (LogsRefusal n self.old.hand self.new.hand) }
         ensures vector { self.new.vector ≡ self.old.vector }
     {
         self.vector.grow_copies(rt, &mut self.hand, n, value)
@@ -111,9 +111,9 @@ impl<T: Drop> SharedWriter<T> {
         // The history gets the claim of the run and what became of its places, or the event whose reply the
         // refusal is.
         ensures logs { IfOk result
-            (λ grown. LogsGrowth self.old.vector AllFilled self.old.hand self.new.hand grown.run) }
+            (λ grown. LogsGrowth AllFilled self.old.hand self.new.hand grown.run) }
         ensures logs_refusal { IfErr result
-            (LogsRefusal self.old.vector (length (S.values source.now)) self.old.hand self.new.hand) }
+            (LogsRefusal (length (S.values source.now)) self.old.hand self.new.hand) }
         ensures vector { self.new.vector ≡ self.old.vector }
     {
         self.vector.try_grow_source(&mut self.hand, source)
@@ -130,9 +130,9 @@ impl<T: Drop> SharedWriter<T> {
         // The history gets the claim of the run and what became of its places, or the event whose reply the
         // refusal is.
         ensures logs { IfOk result
-            (λ run. LogsGrowth self.old.vector AllBroken self.old.hand self.new.hand run) }
+            (λ run. LogsGrowth AllBroken self.old.hand self.new.hand run) }
         ensures logs_refusal { IfErr result
-            (LogsRefusal self.old.vector n self.old.hand self.new.hand) }
+            (LogsRefusal n self.old.hand self.new.hand) }
         ensures vector { self.new.vector ≡ self.old.vector }
     {
         self.vector.try_break_run(&mut self.hand, n)
@@ -147,9 +147,9 @@ impl<T: Drop> SharedWriter<T> {
         // The history gets the claim of the run and what became of its places, or the event whose reply the
         // refusal is.
         ensures logs { IfOk result
-            (λ run. LogsGrowth self.old.vector AllBroken self.old.hand self.new.hand run) }
+            (λ run. LogsGrowth AllBroken self.old.hand self.new.hand run) }
         ensures logs_refusal { IfErr result
-            (LogsRefusal self.old.vector n self.old.hand self.new.hand) }
+            (LogsRefusal n self.old.hand self.new.hand) }
         ensures vector { self.new.vector ≡ self.old.vector }
     {
         self.vector.break_run(rt, &mut self.hand, n)

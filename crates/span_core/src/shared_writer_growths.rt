@@ -2,7 +2,7 @@
 ghost use Rattle.std.specs.Prelude.{◌≡◌, ◌<◌, ◌≤◌, All, IfOk, IfErr, IsOkAnd, IsErrAnd, vec_len};
 ghost use Rattle.claim_core.specs.Hand.{seen_size};
 ghost use Rattle.cell_core.specs.Block.{IsMended};
-ghost use Rattle.grow_core.specs.Vector.{IsOpenedAt, IsPlacedOf, SeesMore, limit_of, IsLaid};
+ghost use Rattle.grow_core.specs.Vector.{IsOpenedAt, IsPlacedOf, SeesMore, limit_of};
 ghost use Rattle.grow_core.specs.Growth.{WonRun, WonPlaces, Refuses, HasNoRoom, SaysFull, IsNotMoved};
 ghost use Rattle.grow_core.specs.Making.{WonMade, WonClones, StopsAfter, IsRefusedBy};
 ghost use Rattle.grow_core.specs.AtLeast.{WonAtLeast, RefusesAtLeast, SaysEnough};
@@ -27,9 +27,9 @@ impl<T: Drop> SharedWriter<T> {
         // The history gets the claim of the run and what became of its places, or the event whose reply the
         // refusal is.
         ensures logs { IfOk result
-            (λ grown. LogsGrowth self.old.vector AllFilled self.old.hand self.new.hand grown.run) }
+            (λ grown. LogsGrowth AllFilled self.old.hand self.new.hand grown.run) }
         ensures logs_refusal { IfErr result
-            (LogsRefusal self.old.vector (vec_len values) self.old.hand self.new.hand) }
+            (LogsRefusal (vec_len values) self.old.hand self.new.hand) }
         ensures vector { self.new.vector ≡ self.old.vector }
     {
         self.vector.try_grow_vec(&mut self.hand, values)
@@ -52,9 +52,9 @@ impl<T: Drop> SharedWriter<T> {
         // The history gets the claim of the run and what became of its places, or the event whose reply the
         // refusal is.
         ensures logs { IfOk result
-            (λ grown. LogsGrowth self.old.vector AllFilled self.old.hand self.new.hand grown.run) }
+            (λ grown. LogsGrowth AllFilled self.old.hand self.new.hand grown.run) }
         ensures logs_refusal { IfErr result
-            (LogsRefusal self.old.vector (vec_len values) self.old.hand self.new.hand) }
+            (LogsRefusal (vec_len values) self.old.hand self.new.hand) }
         ensures vector { self.new.vector ≡ self.old.vector }
     {
         self.vector.grow_vec(rt, &mut self.hand, values)
@@ -76,9 +76,9 @@ impl<T: Drop> SharedWriter<T> {
         // The history gets the claim of the run and what became of its places, or the event whose reply the
         // refusal is.
         ensures logs { IfOk result
-            (λ run. LogsGrowth self.old.vector AllFilled self.old.hand self.new.hand run) }
+            (λ run. LogsGrowth AllFilled self.old.hand self.new.hand run) }
         ensures logs_refusal { IfErr result
-            (LogsRefusal self.old.vector (vec_len values) self.old.hand self.new.hand) }
+            (LogsRefusal (vec_len values) self.old.hand self.new.hand) }
         ensures vector { self.new.vector ≡ self.old.vector }
     {
         self.vector.append(rt, &mut self.hand, values)
@@ -104,9 +104,9 @@ impl<T: Drop> SharedWriter<T> {
         // The history gets the claim of the run and what became of its places, or the event whose reply the
         // refusal is.
         ensures logs { IfOk result
-            (λ grown. LogsGrowth self.old.vector AllFilled self.old.hand self.new.hand grown.run) }
+            (λ grown. LogsGrowth AllFilled self.old.hand self.new.hand grown.run) }
         ensures logs_refusal { IfErr result
-            (LogsRefusal self.old.vector n self.old.hand self.new.hand) }
+            (LogsRefusal n self.old.hand self.new.hand) }
         ensures vector { self.new.vector ≡ self.old.vector }
     {
         self.vector.try_grow_with(&mut self.hand, n, make)
@@ -130,9 +130,9 @@ impl<T: Drop> SharedWriter<T> {
         // The history gets the claim of the run and what became of its places, or the event whose reply the
         // refusal is.
         ensures logs { IfOk result
-            (λ grown. LogsGrowth self.old.vector AllFilled self.old.hand self.new.hand grown.run) }
+            (λ grown. LogsGrowth AllFilled self.old.hand self.new.hand grown.run) }
         ensures logs_refusal { IfErr result
-            (LogsRefusal self.old.vector n self.old.hand self.new.hand) }
+            (LogsRefusal n self.old.hand self.new.hand) }
         ensures vector { self.new.vector ≡ self.old.vector }
     {
         self.vector.grow_with(rt, &mut self.hand, n, make)
@@ -156,9 +156,9 @@ impl<T: Drop> SharedWriter<T> {
         ensures enough { size ≤ seen_size self.old.hand → IsOkAnd result SaysEnough }
         ensures full { limit_of self.old.vector < size → IsErrAnd result SaysFull }
         // The history gets the claim of the run up to the size, or the event whose reply the refusal is.
-        ensures logs { IfOk result (LogsAtLeast self.old.vector size self.old.hand self.new.hand) }
+        ensures logs { IfOk result (LogsAtLeast size self.old.hand self.new.hand) }
         ensures logs_refusal { IfErr result
-            (LogsRefusalUpTo self.old.vector size self.old.hand self.new.hand) }
+            (LogsRefusalUpTo size self.old.hand self.new.hand) }
         ensures vector { self.new.vector ≡ self.old.vector }
     {
         self.vector.grow_to_at_least(&mut self.hand, size, make)
@@ -182,9 +182,9 @@ impl<T: Clone> SharedWriter<T> {
         // The history gets the claim of the run and what became of its places, or the event whose reply the
         // refusal is.
         ensures logs { IfOk result
-            (λ grown. LogsGrowth self.old.vector AllFilled self.old.hand self.new.hand grown.run) }
+            (λ grown. LogsGrowth AllFilled self.old.hand self.new.hand grown.run) }
         ensures logs_refusal { IfErr result
-            (LogsRefusal self.old.vector n self.old.hand self.new.hand) }
+            (LogsRefusal n self.old.hand self.new.hand) }
         ensures vector { self.new.vector ≡ self.old.vector }
     {
         self.vector.try_grow_by(&mut self.hand, n, value)
@@ -207,9 +207,9 @@ impl<T: Clone> SharedWriter<T> {
         // The history gets the claim of the run and what became of its places, or the event whose reply the
         // refusal is.
         ensures logs { IfOk result
-            (λ grown. LogsGrowth self.old.vector AllFilled self.old.hand self.new.hand grown.run) }
+            (λ grown. LogsGrowth AllFilled self.old.hand self.new.hand grown.run) }
         ensures logs_refusal { IfErr result
-            (LogsRefusal self.old.vector n self.old.hand self.new.hand) }
+            (LogsRefusal n self.old.hand self.new.hand) }
         ensures vector { self.new.vector ≡ self.old.vector }
     {
         self.vector.grow_by(rt, &mut self.hand, n, value)
@@ -242,7 +242,7 @@ impl<T> SharedWriter<T> {
         // It gets the mend and its fill, or the look that found the place pending or filled.
         ensures mends { LogsMend self.old.vector place self.old.hand self.new.hand result }
         // A caller that has seen the place filled in the history finds it filled.
-        ensures finished { IsFinishedIn self.old.hand.log place → IsLaid self.old.vector place
+        ensures finished { IsFinishedIn self.old.hand.log place
             → IsErrAnd result (λ (error, _). SaysFilled error) }
         ensures vector { self.new.vector ≡ self.old.vector }
     {

@@ -27,9 +27,9 @@ impl<T: Drop> SharedWriter<T> {
         ensures not_moved { IfErr result IsNotMoved }
         // The history gets the claim of the place and its fill, or the event whose reply the refusal is.
         ensures logs { IfOk result
-            (λ placed. LogsPush self.old.vector self.old.hand self.new.hand placed.place) }
+            (λ placed. LogsPush self.old.hand self.new.hand placed.place) }
         ensures logs_refusal { IfErr result
-            (LogsRefusal self.old.vector 1 self.old.hand self.new.hand) }
+            (LogsRefusal 1 self.old.hand self.new.hand) }
         ensures vector { self.new.vector ≡ self.old.vector }
     {
         self.vector.push_back(rt, &mut self.hand, value)
@@ -45,9 +45,9 @@ impl<T: Drop> SharedWriter<T> {
         ensures full { HasNoRoom self.old.vector 1 self.old.hand → IsErrAnd result SaysFull }
         // The history gets the claim of the place and its fill, or the event whose reply the refusal is.
         ensures logs { IfOk result
-            (λ placed. LogsPush self.old.vector self.old.hand self.new.hand placed.place) }
+            (λ placed. LogsPush self.old.hand self.new.hand placed.place) }
         ensures logs_refusal { IfErr result
-            (LogsRefusal self.old.vector 1 self.old.hand self.new.hand) }
+            (LogsRefusal 1 self.old.hand self.new.hand) }
         ensures vector { self.new.vector ≡ self.old.vector }
     {
         self.vector.try_push_back(&mut self.hand, value)
@@ -65,9 +65,9 @@ impl<T: Drop> SharedWriter<T> {
         ensures full { HasNoRoom self.old.vector 1 self.old.hand → IsErrAnd result SaysFull }
         // The history gets the claim of the place and its fill, or the event whose reply the refusal is.
         ensures logs { IfOk result
-            (λ placed. LogsPush self.old.vector self.old.hand self.new.hand placed.place) }
+            (λ placed. LogsPush self.old.hand self.new.hand placed.place) }
         ensures logs_refusal { IfErr result
-            (LogsRefusal self.old.vector 1 self.old.hand self.new.hand) }
+            (LogsRefusal 1 self.old.hand self.new.hand) }
         ensures vector { self.new.vector ≡ self.old.vector }
     {
         self.vector.try_push_seen(&mut self.hand, value)
@@ -110,7 +110,7 @@ impl<T: Drop> SharedWriter<T> {
             (StopsAppending I.next_gives items self.old.vector self.old.hand self.new.hand) }
         ensures not_moved { IfErr result (λ (_, refused). IsNotMoved refused) }
         // The history gets the claim and the fill of each place, in order; and then the event of the refusal.
-        ensures logs { IfOk result (LogsPushes self.old.vector self.old.hand self.new.hand) }
+        ensures logs { IfOk result (LogsPushes self.old.hand self.new.hand) }
         ensures logs_refusal { IfErr result
             (StopsPushing self.old.vector self.old.hand self.new.hand) }
         ensures vector { self.new.vector ≡ self.old.vector }

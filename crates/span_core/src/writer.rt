@@ -4,7 +4,7 @@ ghost use mathlib.Core.List.{IsPrefix};
 ghost use Rattle.seg_core.specs.Segment.{most_places};
 ghost use Rattle.claim_core.specs.Hand.{IsWholeHand, KeepsOwn, OwnApart, SeesSize, seen_size};
 ghost use Rattle.claim_core.specs.History.{AddsEvents, size_event};
-ghost use Rattle.grow_core.specs.Vector.{IsHandOf, IsPlacedOf, IsOpenedAt, SeesMore, base_of, limit_of, IsLaid};
+ghost use Rattle.grow_core.specs.Vector.{IsHandOf, IsPlacedOf, IsOpenedAt, SeesMore, base_of, limit_of};
 ghost use Rattle.grow_core.specs.Logs.{LogsNothing, LogsAtRefusal, LogsRead, IsFinishedIn};
 ghost use Rattle.grow_core.specs.Read.{IsAt, IsShownAt, ShowsValue, IsDueAt, IsInRange};
 ghost use Rattle.span_core.specs.Hands.{split_off};
@@ -144,9 +144,9 @@ impl<'a, T, B: Tie> Writer<'a, T, B> {
         // A read with a token adds nothing. One without adds its look, with what it returned.
         ensures token { IsSome known.entry → self.new.hand ≡ self.old.hand }
         ensures looks { known.entry ≡ None
-            → LogsRead self.old.vector place self.old.hand self.new.hand result }
+            → LogsRead place self.old.hand self.new.hand result }
         // A caller that has seen the place filled in the history finds it filled.
-        ensures finished { IsFinishedIn self.old.hand.log place → IsLaid self.old.vector place
+        ensures finished { IsFinishedIn self.old.hand.log place
             → IsOk result }
         ensures vector { self.new.vector ≡ self.old.vector }
     {

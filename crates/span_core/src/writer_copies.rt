@@ -22,9 +22,9 @@ impl<'a, T: Copy, B: Tie> Writer<'a, T, B> {
         // The history gets the claim of the run and what became of its places, or the event whose reply the
         // refusal is.
         ensures logs { IfOk result
-            (λ grown. LogsGrowth self.old.vector AllFilled self.old.hand self.new.hand grown.run) }
+            (λ grown. LogsGrowth AllFilled self.old.hand self.new.hand grown.run) }
         ensures logs_refusal { IfErr result
-            (LogsRefusal self.old.vector (length values.now) self.old.hand self.new.hand) }
+            (LogsRefusal (length values.now) self.old.hand self.new.hand) }
         ensures vector { self.new.vector ≡ self.old.vector }
     {
         let vector = self.vector;
@@ -46,9 +46,9 @@ impl<'a, T: Copy, B: Tie> Writer<'a, T, B> {
         // The history gets the claim of the run and what became of its places, or the event whose reply the
         // refusal is.
         ensures logs { IfOk result
-            (λ grown. LogsGrowth self.old.vector AllFilled self.old.hand self.new.hand grown.run) }
+            (λ grown. LogsGrowth AllFilled self.old.hand self.new.hand grown.run) }
         ensures logs_refusal { IfErr result
-            (LogsRefusal self.old.vector (length values.now) self.old.hand self.new.hand) }
+            (LogsRefusal (length values.now) self.old.hand self.new.hand) }
         ensures vector { self.new.vector ≡ self.old.vector }
     {
         let vector = self.vector;
@@ -65,9 +65,9 @@ impl<'a, T: Copy, B: Tie> Writer<'a, T, B> {
         // The history gets the claim of the run and what became of its places, or the event whose reply the
         // refusal is.
         ensures logs { IfOk result
-            (λ grown. LogsGrowth self.old.vector AllFilled self.old.hand self.new.hand grown.run) }
+            (λ grown. LogsGrowth AllFilled self.old.hand self.new.hand grown.run) }
         ensures logs_refusal { IfErr result
-            (LogsRefusal self.old.vector n self.old.hand self.new.hand) }
+            (LogsRefusal n self.old.hand self.new.hand) }
         ensures vector { self.new.vector ≡ self.old.vector }
     {
         let vector = self.vector;
@@ -89,9 +89,9 @@ impl<'a, T: Copy, B: Tie> Writer<'a, T, B> {
         // The history gets the claim of the run and what became of its places, or the event whose reply the
         // refusal is.
         ensures logs { IfOk result
-            (λ grown. LogsGrowth self.old.vector AllFilled self.old.hand self.new.hand grown.run) }
+            (λ grown. LogsGrowth AllFilled self.old.hand self.new.hand grown.run) }
         ensures logs_refusal { IfErr result
-            (LogsRefusal self.old.vector n self.old.hand self.new.hand) }
+            (LogsRefusal n self.old.hand self.new.hand) }
         ensures vector { self.new.vector ≡ self.old.vector }
     {
         let vector = self.vector;
@@ -116,9 +116,9 @@ impl<'a, T: Drop, B: Tie> Writer<'a, T, B> {
         // The history gets the claim of the run and what became of its places, or the event whose reply the
         // refusal is.
         ensures logs { IfOk result
-            (λ grown. LogsGrowth self.old.vector AllFilled self.old.hand self.new.hand grown.run) }
+            (λ grown. LogsGrowth AllFilled self.old.hand self.new.hand grown.run) }
         ensures logs_refusal { IfErr result
-            (LogsRefusal self.old.vector (length (S.values source.now)) self.old.hand self.new.hand) }
+            (LogsRefusal (length (S.values source.now)) self.old.hand self.new.hand) }
         ensures vector { self.new.vector ≡ self.old.vector }
     {
         let vector = self.vector;
@@ -136,9 +136,9 @@ impl<'a, T: Drop, B: Tie> Writer<'a, T, B> {
         // The history gets the claim of the run and what became of its places, or the event whose reply the
         // refusal is.
         ensures logs { IfOk result
-            (λ run. LogsGrowth self.old.vector AllBroken self.old.hand self.new.hand run) }
+            (λ run. LogsGrowth AllBroken self.old.hand self.new.hand run) }
         ensures logs_refusal { IfErr result
-            (LogsRefusal self.old.vector n self.old.hand self.new.hand) }
+            (LogsRefusal n self.old.hand self.new.hand) }
         ensures vector { self.new.vector ≡ self.old.vector }
     {
         let vector = self.vector;
@@ -154,9 +154,9 @@ impl<'a, T: Drop, B: Tie> Writer<'a, T, B> {
         // The history gets the claim of the run and what became of its places, or the event whose reply the
         // refusal is.
         ensures logs { IfOk result
-            (λ run. LogsGrowth self.old.vector AllBroken self.old.hand self.new.hand run) }
+            (λ run. LogsGrowth AllBroken self.old.hand self.new.hand run) }
         ensures logs_refusal { IfErr result
-            (LogsRefusal self.old.vector n self.old.hand self.new.hand) }
+            (LogsRefusal n self.old.hand self.new.hand) }
         ensures vector { self.new.vector ≡ self.old.vector }
     {
         let vector = self.vector;

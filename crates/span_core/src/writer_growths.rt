@@ -2,7 +2,7 @@
 ghost use Rattle.std.specs.Prelude.{◌≡◌, ◌<◌, ◌≤◌, All, IfOk, IfErr, IsOkAnd, IsErrAnd, vec_len};
 ghost use Rattle.claim_core.specs.Hand.{seen_size};
 ghost use Rattle.cell_core.specs.Block.{IsMended};
-ghost use Rattle.grow_core.specs.Vector.{IsOpenedAt, IsPlacedOf, SeesMore, limit_of, IsLaid};
+ghost use Rattle.grow_core.specs.Vector.{IsOpenedAt, IsPlacedOf, SeesMore, limit_of};
 ghost use Rattle.grow_core.specs.Growth.{WonRun, WonPlaces, Refuses, HasNoRoom, SaysFull, IsNotMoved};
 ghost use Rattle.grow_core.specs.Making.{WonMade, WonClones, StopsAfter, IsRefusedBy};
 ghost use Rattle.grow_core.specs.AtLeast.{WonAtLeast, RefusesAtLeast, SaysEnough};
@@ -28,9 +28,9 @@ impl<'a, T: Drop, B: Tie> Writer<'a, T, B> {
         // The history gets the claim of the run and what became of its places, or the event whose reply the
         // refusal is.
         ensures logs { IfOk result
-            (λ grown. LogsGrowth self.old.vector AllFilled self.old.hand self.new.hand grown.run) }
+            (λ grown. LogsGrowth AllFilled self.old.hand self.new.hand grown.run) }
         ensures logs_refusal { IfErr result
-            (LogsRefusal self.old.vector (vec_len values) self.old.hand self.new.hand) }
+            (LogsRefusal (vec_len values) self.old.hand self.new.hand) }
         ensures vector { self.new.vector ≡ self.old.vector }
     {
         let vector = self.vector;
@@ -54,9 +54,9 @@ impl<'a, T: Drop, B: Tie> Writer<'a, T, B> {
         // The history gets the claim of the run and what became of its places, or the event whose reply the
         // refusal is.
         ensures logs { IfOk result
-            (λ grown. LogsGrowth self.old.vector AllFilled self.old.hand self.new.hand grown.run) }
+            (λ grown. LogsGrowth AllFilled self.old.hand self.new.hand grown.run) }
         ensures logs_refusal { IfErr result
-            (LogsRefusal self.old.vector (vec_len values) self.old.hand self.new.hand) }
+            (LogsRefusal (vec_len values) self.old.hand self.new.hand) }
         ensures vector { self.new.vector ≡ self.old.vector }
     {
         let vector = self.vector;
@@ -79,9 +79,9 @@ impl<'a, T: Drop, B: Tie> Writer<'a, T, B> {
         // The history gets the claim of the run and what became of its places, or the event whose reply the
         // refusal is.
         ensures logs { IfOk result
-            (λ run. LogsGrowth self.old.vector AllFilled self.old.hand self.new.hand run) }
+            (λ run. LogsGrowth AllFilled self.old.hand self.new.hand run) }
         ensures logs_refusal { IfErr result
-            (LogsRefusal self.old.vector (vec_len values) self.old.hand self.new.hand) }
+            (LogsRefusal (vec_len values) self.old.hand self.new.hand) }
         ensures vector { self.new.vector ≡ self.old.vector }
     {
         let vector = self.vector;
@@ -108,9 +108,9 @@ impl<'a, T: Drop, B: Tie> Writer<'a, T, B> {
         // The history gets the claim of the run and what became of its places, or the event whose reply the
         // refusal is.
         ensures logs { IfOk result
-            (λ grown. LogsGrowth self.old.vector AllFilled self.old.hand self.new.hand grown.run) }
+            (λ grown. LogsGrowth AllFilled self.old.hand self.new.hand grown.run) }
         ensures logs_refusal { IfErr result
-            (LogsRefusal self.old.vector n self.old.hand self.new.hand) }
+            (LogsRefusal n self.old.hand self.new.hand) }
         ensures vector { self.new.vector ≡ self.old.vector }
     {
         let vector = self.vector;
@@ -135,9 +135,9 @@ impl<'a, T: Drop, B: Tie> Writer<'a, T, B> {
         // The history gets the claim of the run and what became of its places, or the event whose reply the
         // refusal is.
         ensures logs { IfOk result
-            (λ grown. LogsGrowth self.old.vector AllFilled self.old.hand self.new.hand grown.run) }
+            (λ grown. LogsGrowth AllFilled self.old.hand self.new.hand grown.run) }
         ensures logs_refusal { IfErr result
-            (LogsRefusal self.old.vector n self.old.hand self.new.hand) }
+            (LogsRefusal n self.old.hand self.new.hand) }
         ensures vector { self.new.vector ≡ self.old.vector }
     {
         let vector = self.vector;
@@ -162,9 +162,9 @@ impl<'a, T: Drop, B: Tie> Writer<'a, T, B> {
         ensures enough { size ≤ seen_size self.old.hand → IsOkAnd result SaysEnough }
         ensures full { limit_of self.old.vector < size → IsErrAnd result SaysFull }
         // The history gets the claim of the run up to the size, or the event whose reply the refusal is.
-        ensures logs { IfOk result (LogsAtLeast self.old.vector size self.old.hand self.new.hand) }
+        ensures logs { IfOk result (LogsAtLeast size self.old.hand self.new.hand) }
         ensures logs_refusal { IfErr result
-            (LogsRefusalUpTo self.old.vector size self.old.hand self.new.hand) }
+            (LogsRefusalUpTo size self.old.hand self.new.hand) }
         ensures vector { self.new.vector ≡ self.old.vector }
     {
         let vector = self.vector;
@@ -189,9 +189,9 @@ impl<'a, T: Clone, B: Tie> Writer<'a, T, B> {
         // The history gets the claim of the run and what became of its places, or the event whose reply the
         // refusal is.
         ensures logs { IfOk result
-            (λ grown. LogsGrowth self.old.vector AllFilled self.old.hand self.new.hand grown.run) }
+            (λ grown. LogsGrowth AllFilled self.old.hand self.new.hand grown.run) }
         ensures logs_refusal { IfErr result
-            (LogsRefusal self.old.vector n self.old.hand self.new.hand) }
+            (LogsRefusal n self.old.hand self.new.hand) }
         ensures vector { self.new.vector ≡ self.old.vector }
     {
         let vector = self.vector;
@@ -215,9 +215,9 @@ impl<'a, T: Clone, B: Tie> Writer<'a, T, B> {
         // The history gets the claim of the run and what became of its places, or the event whose reply the
         // refusal is.
         ensures logs { IfOk result
-            (λ grown. LogsGrowth self.old.vector AllFilled self.old.hand self.new.hand grown.run) }
+            (λ grown. LogsGrowth AllFilled self.old.hand self.new.hand grown.run) }
         ensures logs_refusal { IfErr result
-            (LogsRefusal self.old.vector n self.old.hand self.new.hand) }
+            (LogsRefusal n self.old.hand self.new.hand) }
         ensures vector { self.new.vector ≡ self.old.vector }
     {
         let vector = self.vector;
@@ -251,7 +251,7 @@ impl<'a, T, B: Tie> Writer<'a, T, B> {
         // It gets the mend and its fill, or the look that found the place pending or filled.
         ensures mends { LogsMend self.old.vector place self.old.hand self.new.hand result }
         // A caller that has seen the place filled in the history finds it filled.
-        ensures finished { IsFinishedIn self.old.hand.log place → IsLaid self.old.vector place
+        ensures finished { IsFinishedIn self.old.hand.log place
             → IsErrAnd result (λ (error, _). SaysFilled error) }
         ensures vector { self.new.vector ≡ self.old.vector }
     {

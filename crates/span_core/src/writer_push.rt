@@ -28,9 +28,9 @@ impl<'a, T: Drop, B: Tie> Writer<'a, T, B> {
         ensures not_moved { IfErr result IsNotMoved }
         // The history gets the claim of the place and its fill, or the event whose reply the refusal is.
         ensures logs { IfOk result
-            (λ placed. LogsPush self.old.vector self.old.hand self.new.hand placed.place) }
+            (λ placed. LogsPush self.old.hand self.new.hand placed.place) }
         ensures logs_refusal { IfErr result
-            (LogsRefusal self.old.vector 1 self.old.hand self.new.hand) }
+            (LogsRefusal 1 self.old.hand self.new.hand) }
         ensures vector { self.new.vector ≡ self.old.vector }
     {
         let vector = self.vector;
@@ -47,9 +47,9 @@ impl<'a, T: Drop, B: Tie> Writer<'a, T, B> {
         ensures full { HasNoRoom self.old.vector 1 self.old.hand → IsErrAnd result SaysFull }
         // The history gets the claim of the place and its fill, or the event whose reply the refusal is.
         ensures logs { IfOk result
-            (λ placed. LogsPush self.old.vector self.old.hand self.new.hand placed.place) }
+            (λ placed. LogsPush self.old.hand self.new.hand placed.place) }
         ensures logs_refusal { IfErr result
-            (LogsRefusal self.old.vector 1 self.old.hand self.new.hand) }
+            (LogsRefusal 1 self.old.hand self.new.hand) }
         ensures vector { self.new.vector ≡ self.old.vector }
     {
         let vector = self.vector;
@@ -68,9 +68,9 @@ impl<'a, T: Drop, B: Tie> Writer<'a, T, B> {
         ensures full { HasNoRoom self.old.vector 1 self.old.hand → IsErrAnd result SaysFull }
         // The history gets the claim of the place and its fill, or the event whose reply the refusal is.
         ensures logs { IfOk result
-            (λ placed. LogsPush self.old.vector self.old.hand self.new.hand placed.place) }
+            (λ placed. LogsPush self.old.hand self.new.hand placed.place) }
         ensures logs_refusal { IfErr result
-            (LogsRefusal self.old.vector 1 self.old.hand self.new.hand) }
+            (LogsRefusal 1 self.old.hand self.new.hand) }
         ensures vector { self.new.vector ≡ self.old.vector }
     {
         let vector = self.vector;
@@ -116,7 +116,7 @@ impl<'a, T: Drop, B: Tie> Writer<'a, T, B> {
             (StopsAppending I.next_gives items self.old.vector self.old.hand self.new.hand) }
         ensures not_moved { IfErr result (λ (_, refused). IsNotMoved refused) }
         // The history gets the claim and the fill of each place, in order; and then the event of the refusal.
-        ensures logs { IfOk result (LogsPushes self.old.vector self.old.hand self.new.hand) }
+        ensures logs { IfOk result (LogsPushes self.old.hand self.new.hand) }
         ensures logs_refusal { IfErr result
             (StopsPushing self.old.vector self.old.hand self.new.hand) }
         ensures vector { self.new.vector ≡ self.old.vector }

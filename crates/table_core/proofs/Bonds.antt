@@ -212,6 +212,15 @@ tied_kind f lent entries k x e own are tied = record {
   soft = subst (λ (es : List EntryView). AllSoft f es) (sym (set_twice entries k x e)) (soft_set f entries k e are.soft (tied_soft e own tied));
 }
 
+-- the same of one entry that is replaced once, while no block is lent
+pub tied_kind_set : (f : ℕ) (lent : Option ℕ) (entries : List EntryView) (k : ℕ) (e : EntryView) (own : EntryTie) → AreOfKind true f lent entries
+    → lent ≡ None → tie_of e ≡ Some own → AreOfKind true f lent (slice_set entries k e)
+tied_kind_set f lent entries k e own are back tied = record {
+  plain = λ none. absurd (true_is_not none);
+  loose = λ j some. absurd (none-some j (sym back ∙ some));
+  soft = soft_set f entries k e are.soft (tied_soft e own tied);
+}
+
 -- the entry of a block that is lent says nothing
 pub loose_lent : (tied : Bool) (f : ℕ) (lent : Option ℕ) (entries : List EntryView) (k : ℕ) → AreOfKind tied f lent entries → lent ≡ Some k
     → bond_among entries k ≡ None
@@ -239,6 +248,8 @@ cast_lent tied f lent entries k e x are some near is long =
 
 -- what follows for a table once an entry is replaced, is set to a block, or is tied; and once a block is lent or comes back
 pub ruleset attached_plain = (names_kept, name_there, bonds_kept, bond_there, untied_there, plain_untied, plain_soft, kind_soft_set)
+
+pub ruleset attached_placed = (names_kept, name_there, bonds_kept)
 
 pub ruleset replaced = (names_kept, renamed_there, bonds_kept, bond_replaced, untied_replaced, soft_renamed, kind_replaced)
 

@@ -11,8 +11,8 @@
 //!
 //! The entries of a `Table<T, Tied>` may be tied to a table of `atomic_table`, as the cells of their blocks are. A look
 //! at a tied entry, and the exchange that sets it, run an update of their caller, a `Visit` of `tie_core`
-//! (`table/tied.rt`). Nothing uses this yet. Of a *plain* entry callers can prove that it is not tied, and that no cell of
-//! its block is (`table/plain.rt`).
+//! (`table/tied.rt`). An owner may also set an entry to a block that brings its seat. Of a *plain* entry callers can
+//! prove that it is not tied, and that no cell of its block is (`table/plain.rt`).
 //!
 //! `entry/steps.rt` has the raw steps on an entry, each a few lines around one atomic step, and
 //! `entry/loose.rt` a box as its pointer. Both are proved by hand; `specs/Entry.antt` defines what an entry

@@ -160,6 +160,7 @@ impl<T, B: Kind> Table<T, B> {
     fn without_blocks(alloc: Global, layout: Layout) -> Table<T, B>
         ensures layout { result.layout ≡ layout }
         ensures plain { (k : ℕ) → k < segment_count layout → IsPlainAt result k }
+        ensures none_lent { result.lent ≡ None }
     {
         // It is one from 1 to 8.
         let _f = layout.f();

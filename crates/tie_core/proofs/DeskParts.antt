@@ -22,9 +22,9 @@ use Rattle.atomic_table.specs.Table.{State}
 use Rattle.atomic_table.specs.Seated.{TableId, age, seen, lasts, common}
 use Rattle.atomic_table.specs.declared.shared.TableRule.{Ghosts}
 use Rattle.atomic_table.proofs.Fields.{token_val}
-use Rattle.tie_core.specs.Tie.{Tie, Stage, Idle, Begun, Mending, Filled, Broken, Step, Made, Moves, Gives, IsMade, seat_of, seat_at, tie_further, tie_numbered, row_of, left, update}
-use Rattle.tie_core.specs.Desk.{content, HasCodes, tie_at, gone}
-use Rattle.tie_core.specs.Permits.{PermitsCell, PermitsRow, TellsOfBoth}
+use Rattle.tie_core.specs.Tie.{Tie, Stage, Idle, Begun, Mending, Filled, Broken, Step, Made, Moves, Gives, IsMade, seat_of, seat_at, tie_further, tie_numbered, row_of, stages_from, left, update}
+use Rattle.tie_core.specs.Desk.{content, HasCodes, gone}
+use Rattle.tie_core.specs.Permits.{PermitsAdoption, PermitsCell, PermitsRow, TellsOfBoth}
 use Rattle.tie_core.specs.Run.{IsRunMade, run_of, run_floor, updates}
 use Rattle.tie_core.specs.Visit.{PermitsEntry}
 use Rattle.tie_core.specs.declared.play.Staged as staged
@@ -86,13 +86,10 @@ pub row_length : (t : Tie) (n : ℕ) → length (row_of t n) ≡ n
 row_length t zero = refl
 row_length t (suc n) = ap suc (row_length (tie_further t 1) n)
 
--- a tie that a desk makes has the codes of the views
-pub codes_at : {V : Type 0} (c : V → Gv) (shows : Stage → V) (z : TableId) (floor k : ℕ) → HasCodes c shows (tie_at c shows z floor k)
-codes_at c shows z floor k Idle = refl
-codes_at c shows z floor k Begun = refl
-codes_at c shows z floor k Mending = refl
-codes_at c shows z floor k Filled = refl
-codes_at c shows z floor k Broken = refl
+-- as many stages as places
+pub stages_length : (f : ℕ → Stage) (from n : ℕ) → length (stages_from f from n) ≡ n
+stages_length f from zero = refl
+stages_length f from (suc n) = ap suc (stages_length f (from + 1) n)
 
 module _ {M : Type 1} {𝓤 : Ura M} (𝓛 : Logic 𝓤) where
   open 𝓛 use {H, A}
@@ -215,6 +212,15 @@ module _ {M : Type 1} {𝓤 : Ura M} (𝓛 : Logic 𝓤) (R : RattleType) {V : T
       qed 𝓛 (‵ (fnamed floor (fbor α J)) ∷ ‵ (flft α q) ∷ ‵ (half id v) ∷ []) ∵ suffices ! _ (𝓛.invs.invs_bor_acc floor α q J [] Q ((λ m. not-mem-nil m), tt)) $
       nothing ! $ move ! (1 ∷ 0 ∷ []) $ fjoin ! $ frame ! $ frame ! $ assume ! (‵ J ⊛ ‵ ftrue) $ split ! $ move ! (0 ∷ 2 ∷ []) $
       use2 𝓛 (raw (upd 𝓤 (⟦ J ⟧ ∗ Q))) (seats.enters 𝓛 R cv holds w z id v empty told law) $ settle 𝓛 G (‵ J ⊛ ‵ (fex ℕ Made)) $ split ! $ suffices ! _ (upd_i 𝓤 G) $
+      move ! (0 ∷ 2 ∷ 1 ∷ []) $ done !
+
+  -- the seats of cells that are there already come without a step
+  pub adopting : (shows : Stage → V) (f : ℕ → Stage) (from n floor id : ℕ) (v x : V) (told : V → Type 0) → PermitsAdoption holds id v shows (stages_from f from n) x told → (q : Share)
+      → ⟦ fnamed floor (fbor α J) ⟧ ∗ A.lft α q ∗ ⟦ half id v ⟧ ⊢ H.⇛ (⟦ fex ℕ (seats.Adopted 𝓛 R cv holds w z shows floor f from n id x told) ⟧ ∗ A.lft α q)
+  adopting shows f from n floor id v x told law q = let Made : ℕ → Fml = seats.Adopted 𝓛 R cv holds w z shows floor f from n id x told in let Q : Pr = ⟦ fex ℕ Made ⟧ in let G : Pr = ⟦ J ⟧ ∗ (⟦ ftrue ⟧ ∗ Q) in
+      qed 𝓛 (‵ (fnamed floor (fbor α J)) ∷ ‵ (flft α q) ∷ ‵ (half id v) ∷ []) ∵ suffices ! _ (𝓛.invs.invs_bor_acc floor α q J [] Q ((λ m. not-mem-nil m), tt)) $
+      nothing ! $ move ! (1 ∷ 0 ∷ []) $ fjoin ! $ frame ! $ frame ! $ assume ! (‵ J ⊛ ‵ ftrue) $ split ! $ move ! (0 ∷ 2 ∷ []) $
+      use2 𝓛 (raw (upd 𝓤 (⟦ J ⟧ ∗ Q))) (seats.adopts 𝓛 R cv holds w z shows floor f from n id v x told law) $ settle 𝓛 G (‵ J ⊛ ‵ (fex ℕ Made)) $ split ! $ suffices ! _ (upd_i 𝓤 G) $
       move ! (0 ∷ 2 ∷ 1 ∷ []) $ done !
 
   -- what the rule tells of two seats comes without a step

@@ -1,11 +1,11 @@
 -- Seats of a table move, and new seats come, while the content of the table's invariant is at hand. Assumes `Logic`.
-use Rattle.std.proofs.Common.{◌≡◌, ◌≢◌, ℕ, zero, suc, ◌+◌, List, [], ◌∷◌, ◌++◌, length, set, replicate, sym, refl, ◌∙◌, arith, append_assoc, append-nil, length-append, zero-add}
+use Rattle.std.proofs.Common.{◌≡◌, ◌≢◌, ℕ, zero, suc, ◌+◌, List, [], ◌∷◌, ◌++◌, length, map, set, replicate, sym, refl, ◌∙◌, arith, append_assoc, append-nil, length-append, zero-add, ap}
 use mathlib.Core.Option.{some}
 use lib.ListN.{get_elem?}
 use seplogic.Ra.Ura.{Ura}
 use base.Fraction.{full_share}
 use base.Share.{quarter, three_quarters}
-use base.Stored.{Coded}
+use base.Stored.{Gv, Coded}
 use base.Logic.{SProp, ent, sep, all, guard, upd, all_e, upd_i}
 use base.Fml.{Fml, ftrue, fsep, fex}
 use types.Logic.{Logic, sem}
@@ -18,10 +18,18 @@ use Rattle.atomic_table.specs.Table.{State}
 use Rattle.atomic_table.specs.Seated.{TableId, age, place, names, row, shelf, roster, seen, unused, halved, standing}
 use Rattle.atomic_table.proofs.Roster.{resets, apart, Moved, moves}
 use Rattle.atomic_table.proofs.Lists.{set_again}
-use Rattle.tie_core.specs.Tie.{Stage, Idle, seats, row_of}
-use Rattle.tie_core.specs.Desk.{content, gone, tie_at}
-use Rattle.tie_core.specs.Permits.{with_views, PermitsAlone, PermitsLook, PermitsTrade, PermitsRow, TellsOfBoth}
+use Rattle.tie_core.specs.Tie.{Stage, Idle, Begun, Mending, Filled, Broken, seats, seats_at, row_of, stages_from}
+use Rattle.tie_core.specs.Desk.{HasCodes, content, gone, tie_at}
+use Rattle.tie_core.specs.Permits.{with_views, PermitsAlone, PermitsLook, PermitsTrade, PermitsRow, PermitsAdoption, TellsOfBoth}
 use Rattle.tie_core.specs.Visit.{PermitsEntry}
+
+-- a tie that a desk makes has the codes of the views
+pub codes_at : {V : Type 0} (c : V → Gv) (shows : Stage → V) (z : TableId) (floor k : ℕ) → HasCodes c shows (tie_at c shows z floor k)
+codes_at c shows z floor k Idle = refl
+codes_at c shows z floor k Begun = refl
+codes_at c shows z floor k Mending = refl
+codes_at c shows z floor k Filled = refl
+codes_at c shows z floor k Broken = refl
 
 module _ {M : Type 1} {𝓤 : Ura M} (𝓛 : Logic 𝓤) (R : RattleType) {V : Type 0} (cv : Coded V) (holds : State R.Denot V → Type 0) (w : Ptr) (z : TableId) where
   abbrev Pr : Type 2
@@ -241,3 +249,48 @@ module _ {M : Type 1} {𝓤 : Ura M} (𝓛 : Logic 𝓤) (R : RattleType) {V : T
         rewrite ! 1 (λ (m : ℕ). ‵ (half m u)) long refl $ suffices ! _ (upd_i 𝓤 Z) $
         -- [the views; the last seat; the others; the slots; the words]
         move ! (4 ∷ 3 ∷ 0 ∷ []) $ use3 𝓛 (‵ J) (shut s (us ++ u ∷ []) (law s fits.0, fits.1, fits.2)) $ move ! (2 ∷ 1 ∷ []) $ fjoin ! $ fpack ! ℕ (Laid owner n) k $ move ! (1 ∷ 0 ∷ []) $ done !))
+
+    -- the seats of n cells at the stages of their places, of which the first has the number k
+    abbrev pub Staged : (ℕ → Stage) → ℕ → ℕ → ℕ → Fml
+    Staged f from k n = seats_at (row_of (tie_at cv.code shows z floor k) n) (stages_from f from n)
+
+    -- there are as many of the stages' views as cells
+    staged_length : (f : ℕ → Stage) (from n : ℕ) → length (map shows (stages_from f from n)) ≡ n
+    staged_length f from zero = refl
+    staged_length f from (suc n) = ap suc (staged_length f (from + 1) n)
+
+    -- n new seats have the next numbers, in a row, and show the stages
+    stages : (f : ℕ → Stage) (n from : ℕ) (vs : List V) → ⟦ L vs ⟧ ⊢ upd 𝓤 (⟦ L (vs ++ map shows (stages_from f from n)) ⟧ ∗ ⟦ Staged f from (length vs) n ⟧)
+    stages f zero from vs = let Z : Pr = ⟦ L (vs ++ []) ⟧ ∗ ⟦ ftrue ⟧ in qed 𝓛 (‵ (L vs) ∷ []) ∵ suffices ! _ (upd_i 𝓤 Z) $ rewrite ! 0 (λ (us : List V). ‵ (L us)) (sym (append-nil vs)) refl $ nothing ! $ move ! (1 ∷ 0 ∷ []) $ done !
+    stages f (suc n) from vs = let x : V = shows (f from) in let us : List V = vs ++ x ∷ [] in let rest : List V = map shows (stages_from f (from + 1) n) in let e : length us ≡ length vs + 1 = length-append vs (x ∷ []) in
+        let k : ℕ = length vs in let Z : Pr = ⟦ L (vs ++ x ∷ rest) ⟧ ∗ ⟦ Staged f from k (suc n) ⟧ in qed 𝓛 (‵ (L vs) ∷ []) ∵
+        use1 𝓛 (raw (upd 𝓤 (⟦ L us ⟧ ∗ ⟦ half (0 + k) x ⟧))) (next vs 0 x) $ settle 𝓛 Z (‵ (L us) ⊛ ‵ (half (0 + k) x)) $ split ! $ rewrite ! 1 (λ (m : ℕ). ‵ (half m x)) (zero-add k) refl $
+        use1 𝓛 (raw (upd 𝓤 (⟦ L (us ++ rest) ⟧ ∗ ⟦ Staged f (from + 1) (length us) n ⟧))) (stages f n (from + 1) us) $ settle 𝓛 Z (‵ (L (us ++ rest)) ⊛ ‵ (Staged f (from + 1) (length us) n)) $ split ! $
+        -- [the views; the other seats; the first one]
+        rewrite ! 0 (λ (ws : List V). ‵ (L ws)) (append_assoc vs (x ∷ []) rest) refl $ rewrite ! 1 (λ (m : ℕ). ‵ (Staged f (from + 1) m n)) e refl $
+        rewrite ! 2 (λ (g : Gv). ‵ (seen (λ (h : Gv). h) γ k three_quarters g)) (sym (codes_at cv.code shows z floor k (f from))) refl $
+        suffices ! _ (upd_i 𝓤 Z) $ move ! (2 ∷ 1 ∷ []) $ fjoin ! $ move ! (1 ∷ 0 ∷ []) $ done !
+
+    -- n new seats for cells at the stages of their places, and one behind them, whose number is k + n, by a move of the caller's seat
+    abbrev pub Adopted : (ℕ → Stage) → ℕ → ℕ → ℕ → V → (V → Type 0) → ℕ → Fml
+    Adopted f from n id x told k = fsep (Staged f from k n) (fsep (half (k + n) x) (Gone id told))
+
+    pub adopts : (f : ℕ → Stage) (from n id : ℕ) (v x : V) (told : V → Type 0) → PermitsAdoption holds id v shows (stages_from f from n) x told
+        → ⟦ J ⟧ ∗ ⟦ half id v ⟧ ⊢ upd 𝓤 (⟦ J ⟧ ∗ ⟦ fex ℕ (Adopted f from n id x told) ⟧)
+    adopts f from n id v x told law = let Z : Pr = ⟦ J ⟧ ∗ ⟦ fex ℕ (Adopted f from n id x told) ⟧ in let ss : List Stage = stages_from f from n in
+        qed 𝓛 (‵ J ∷ ‵ (half id v) ∷ []) ∵ fpick ! (λ s. fsplit3 ! $ move ! (2 ∷ []) $ fpick ! (λ fits. drop ! $ move ! (1 ∷ []) $ fsplit ! $
+        -- [the slots; the views; the words; the caller's seat]
+        move ! (1 ∷ 3 ∷ []) $ use2 𝓛 (raw (upd 𝓤 (guard 𝓤 (get_elem? s.views id ≡ some v) (⟦ L s.views ⟧ ∗ ⟦ half id v ⟧)))) (seen_at s.views id v) $
+        settle 𝓛 Z (given (get_elem? s.views id ≡ some v) (‵ (L s.views) ⊛ ‵ (half id v))) $ learn ! (λ here. split ! $
+        let r = law s fits.0 here in let u : V = r.0 in let us : List V = set s.views id u in let k : ℕ = length us in let ws : List V = us ++ map shows ss in
+        let long : 0 + length ws ≡ k + n = zero-add (length ws) ∙ length-append us (map shows ss) ∙ (λ i. k + staged_length f from n i) in
+        use2 𝓛 (raw (upd 𝓤 (⟦ L us ⟧ ∗ ⟦ half id u ⟧))) (moved_to s.views id v u) $ settle 𝓛 Z (‵ (L us) ⊛ ‵ (half id u)) $ split ! $
+        use1 𝓛 (raw (upd 𝓤 (⟦ L ws ⟧ ∗ ⟦ Staged f from k n ⟧))) (stages f n from us) $ settle 𝓛 Z (‵ (L ws) ⊛ ‵ (Staged f from k n)) $ split ! $
+        -- [the views; the cells' seats; the caller's; the slots; the words]
+        use1 𝓛 (raw (upd 𝓤 (⟦ L (ws ++ x ∷ []) ⟧ ∗ ⟦ half (0 + length ws) x ⟧))) (next ws 0 x) $ settle 𝓛 Z (‵ (L (ws ++ x ∷ [])) ⊛ ‵ (half (0 + length ws) x)) $ split ! $
+        rewrite ! 1 (λ (m : ℕ). ‵ (half m x)) long refl $ suffices ! _ (upd_i 𝓤 Z) $
+        -- [the views; the last seat; the cells' seats; the caller's; the slots; the words]
+        move ! (5 ∷ 4 ∷ 0 ∷ []) $ use3 𝓛 (‵ J) (shut s (ws ++ x ∷ []) (r.1, fits.1, fits.2)) $ move ! (3 ∷ []) $
+        -- [the caller's seat; the table; the last seat; the cells' seats]
+        nothing ! $ fpack ! (told u) (λ _. ftrue) r.2 $ fjoin ! $ fpack ! V (λ t. fsep (fex (told t) (λ _. ftrue)) (half id t)) u $ move ! (2 ∷ 0 ∷ []) $ fjoin ! $ move ! (2 ∷ 0 ∷ []) $ fjoin ! $
+        fpack ! ℕ (Adopted f from n id x told) k $ move ! (1 ∷ 0 ∷ []) $ done !)))

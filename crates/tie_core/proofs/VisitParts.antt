@@ -27,6 +27,7 @@ use Rattle.tie_core.specs.declared.visit.Entered as entered
 use Rattle.tie_core.specs.contracts.visit.Visit as Visit
 use Rattle.tie_core.specs.contracts.visit.EntryTag as EntryTag
 use Rattle.tie_core.specs.contracts.visit.EntrySeat as EntrySeat
+use Rattle.tie_core.specs.contracts.visit.PlacedSeat as PlacedSeat
 use Rattle.tie_core.proofs.SeatSteps as seats
 
 module _ (a : NamedLft) (X K : RattleType) (g : book.Ghosts K.Denot X.Denot) where
@@ -54,6 +55,12 @@ entry_seat_told vs is = is.1.0 ∙ ap (λ (ws : List Val). vstruct (of_list (ws 
 
 pub entry_seat_words : {M : Type 1} {𝓤 : Ura M} (𝓛 : Logic 𝓤) → ent 𝓤 (emp 𝓤) (sem 𝓛 (EntrySeatWords.own_val (tt, tt) (token_val ∷ [])))
 entry_seat_words 𝓛 = makes_shadow 𝓛 (EntrySeatWords.own_val (tt, tt) (token_val ∷ [])) (λ vss. (tt, ((λ uss. (tt, tt)), tt))) ((vstruct vnil ∷ [], tt), (refl, ((tt, (refl, tt)), tt)))
+
+abbrev pub PlacedSeatWords : RattleType
+PlacedSeatWords = Struct (shape PlacedSeat.the_type)
+
+pub placed_seat_words : {M : Type 1} {𝓤 : Ura M} (𝓛 : Logic 𝓤) → ent 𝓤 (emp 𝓤) (sem 𝓛 (PlacedSeatWords.own_val (tt, tt) (token_val ∷ [])))
+placed_seat_words 𝓛 = makes_shadow 𝓛 (PlacedSeatWords.own_val (tt, tt) (token_val ∷ [])) (λ vss. (tt, ((λ uss. (tt, tt)), tt))) ((vstruct vnil ∷ [], tt), (refl, ((tt, (refl, tt)), tt)))
 
 -- an update that has run has what the step found
 pub found_of : (made : Option Content) → HasVisited made → (v : Content) × (made ≡ Some v)

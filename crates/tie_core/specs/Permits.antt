@@ -1,5 +1,5 @@
 -- What the rule of a table must allow, so that seats of it move in one step on a cell or an entry, or are made.
-use Rattle.std.specs.Prelude.{◌≡◌, ◌≢◌, ℕ, List, [], ◌∷◌, ◌++◌, length, slice_set}
+use Rattle.std.specs.Prelude.{◌≡◌, ◌≢◌, ℕ, List, [], ◌∷◌, ◌++◌, length, map, slice_set}
 use mathlib.Core.Option.{some}
 use lib.ListN.{get_elem?, replicate}
 use Rattle.atomic_table.specs.Table.{State}
@@ -47,3 +47,9 @@ module _ {S V : Type 0} (holds : State S V → Type 0) where
   abbrev pub PermitsRow : (Stage → V) → (ℕ → ℕ → V) → ℕ → Type 0
   PermitsRow shows owner n = (s : State S V) → holds s
       → holds (with_views s ((s.views ++ replicate n (shows Idle)) ++ owner (length s.views) n ∷ []))
+
+  -- New seats may come with a step of the caller's seat `id`, at the view v: those of cells that are there already,
+  -- which show these stages, and one behind them, at the view x.
+  abbrev pub PermitsAdoption : ℕ → V → (Stage → V) → List Stage → V → (V → Type 0) → Type 0
+  PermitsAdoption id v shows stages x then = (s : State S V) → holds s → get_elem? s.views id ≡ some v
+      → (u : V) × holds (with_views s ((slice_set s.views id u ++ map shows stages) ++ x ∷ [])) × then u

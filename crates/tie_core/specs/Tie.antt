@@ -1,9 +1,9 @@
 -- What ties a cell to a table of `atomic_table`: a seat of the table, whose view shows how far the cell is.
-use Rattle.std.specs.Prelude.{◌≡◌, ◌≢◌, ℕ, zero, suc, ◌+◌, ◌<◌, Option, Some, None, List, [], ◌∷◌}
+use Rattle.std.specs.Prelude.{◌≡◌, ℕ, zero, suc, ◌+◌, ◌<◌, ◌≤◌, Option, Some, None, List, [], ◌∷◌}
 use Rattle.std.specs.Coded.{coded_option}
 use Rattle.std.proofs.Common.{refl, sym, ap, ◌∙◌}
 use base.Share.{three_quarters}
-use base.Stored.{Gv, Coded, coded×, coded_ℕ, coded_via}
+use base.Stored.{Gv, gnil, Coded, coded×, coded_ℕ, coded_via}
 use base.Fml.{GName, Lft, Fml, ftrue, fsep, fex, fall, fwand, fupd, fbor, fnamed}
 use base.Before.{before}
 use Rattle.atomic_table.specs.Seated.{itself, seen}
@@ -96,6 +96,36 @@ abbrev pub seats : List (Option Tie) → Fml
 seats [] = ftrue
 seats (τ ∷ τs) = fsep (seat_at τ Idle) (seats τs)
 
+-- the seats of some cells that are at these stages, in order
+abbrev pub seats_at : List (Option Tie) → List Stage → Fml
+seats_at [] stages = ftrue
+seats_at (τ ∷ τs) [] = ftrue
+seats_at (τ ∷ τs) (s ∷ stages) = fsep (seat_at τ s) (seats_at τs stages)
+
+-- the tie of a cell of an owner's, which nobody has begun: it has no seat, and no table
+abbrev pub idle_tie : Tie
+idle_tie = record {
+  views = 0;
+  id = 0;
+  floor = 0;
+  idle = gnil;
+  begun = gnil;
+  mending = gnil;
+  filled = gnil;
+  broken = gnil;
+  fixed = Some Idle;
+}
+
+-- the ties of n such cells
+abbrev pub idle_ties : ℕ → List (Option Tie)
+idle_ties zero = []
+idle_ties (suc n) = Some idle_tie ∷ idle_ties n
+
+-- the stages of the cells of n places from one on, by what the stage of each place is
+abbrev pub stages_from : (ℕ → Stage) → ℕ → ℕ → List Stage
+stages_from f from zero = []
+stages_from f from (suc n) = f from ∷ stages_from f (from + 1) n
+
 -- the tie of the seat that is n seats further
 abbrev pub tie_further : Tie → ℕ → Tie
 tie_further t n = record t { id = t.id + n }
@@ -179,7 +209,7 @@ Moves looks n s s' = Shows s n × (s' ≡ s)
 Moves begins n s s' = Shows s n × (s' ≡ Begun)
 Moves fills n s s' = Shows s n × IsHeld s × (s' ≡ Filled)
 Moves breaks n s s' = Shows s n × IsHeld s × (s' ≡ Broken)
-Moves mends n s s' = Shows s n × (n ≡ 5 → s' ≡ Mending) × (n ≢ 5 → s' ≡ s)
+Moves mends n s s' = Shows s n × (3 < n → s' ≡ Mending) × (n ≤ 3 → s' ≡ s)
 
 -- what an update must show of the stage before the step: a begin finds the cell idle
 abbrev pub Gives : Step → Stage → Type 0

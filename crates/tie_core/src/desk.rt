@@ -4,18 +4,18 @@ ghost use Rattle.std.specs.Prelude.{◌≡◌, ℕ, ◌+◌, ◌<◌, [], ◌∷
 ghost use denote.RawPtr.{Ptr, coded_ptr};
 ghost use denote.Sharing.{said};
 ghost use Rattle.atomic_table.specs.Seated.{TableId, table_id_coded};
-ghost use Rattle.tie_core.specs.Tie.{row_of};
+ghost use Rattle.tie_core.specs.Tie.{row_of, stages_from};
 ghost use Rattle.tie_core.specs.Desk.{desk_owns, IsTieOf};
-ghost use Rattle.tie_core.specs.Permits.{PermitsCell, PermitsRow};
+ghost use Rattle.tie_core.specs.Permits.{PermitsAdoption, PermitsCell, PermitsRow};
 ghost use Rattle.tie_core.specs.Run.{run_of, PermitsRun};
 ghost use Rattle.tie_core.specs.Visit.{IsEntryOf, PermitsEntry, PermitsVisit, PermitsPublish};
 
 use crate::offer::Offer;
-use crate::play::{CellPlay, Moving, RowPlay, SeatMove, Staged};
+use crate::play::{CellPlay, Moving, Opened, RowPlay, SeatMove, Staged};
 use crate::run::{RunOffer, RunPlay, SeatRun};
-use crate::seats::Seats;
+use crate::seats::{Seats, StagedSeats};
 use crate::tag::Tag;
-use crate::visit::{Entered, EntryPlay, EntrySeat, EntryTag, SeatVisit, Visit};
+use crate::visit::{Entered, EntryPlay, EntrySeat, EntryTag, PlacedSeat, SeatVisit, Visit};
 use atomic_table::{Badge, Shared, TableRule};
 use std::marker::{Model, PhantomData};
 
@@ -251,6 +251,54 @@ impl<S, V, K, P: TableRule<S, V, K> + Entered<V>> Desk<S, V, K, P> {
         Visit {
             marker: PhantomData,
         }
+    }
+}
+
+impl<S, V, K, P: TableRule<S, V, K> + Staged<V> + Entered<V> + Opened<K>> Desk<S, V, K, P> {
+    /// Makes the seats of the `n` cells of a block that is there already, from the place `from` on, with numbers in a
+    /// row. Each shows the stage at which the table's data says that the place begins. One more seat lies behind them:
+    /// that of the block, for the entry that is set to it. The first tag is of the first cell, and the second one is
+    /// the entry's. The caller's seat goes along. No step is taken.
+    pub fn adopt<M: EntryPlay<V>>(
+        table: &Shared<S, V, K, P>,
+        desk: &Desk<S, V, K, P>,
+        badge: &mut Badge<V>,
+        from: u64,
+        n: u64,
+    ) -> (StagedSeats, Tag<V, P>, PlacedSeat, EntryTag<V, P>)
+        requires table { (desk.now.table_id ≡ table.now.table_id)
+            × (badge.old.table_id ≡ table.now.table_id) }
+        requires permits { (v : V) × (badge.old.views ≡ v ∷ [])
+            × PermitsAdoption (P.holds desk.now.key) badge.old.id v P.shows
+            (stages_from (P.opened_at desk.now.key) from n) (P.placed from n)
+            (M.then from v None) }
+        ensures seats { (result.0.ties ≡ row_of result.1.tie n) × (length result.0.ties ≡ n)
+            × (result.0.stages ≡ stages_from (P.opened_at desk.now.key) from n)
+            × (length result.0.stages ≡ n) }
+        ensures tie { IsTieOf table.now.table_id desk.now.floor result.1.tie }
+        ensures placed { IsEntryOf table.now.table_id desk.now.floor result.3.tie
+            × (result.2.tie ≡ result.3.tie)
+            × (result.3.from ≡ from) × (result.3.n ≡ n)
+            × (result.2.number ≡ result.1.tie.id + n) }
+        ensures seat { (badge.new.table_id ≡ badge.old.table_id) × (badge.new.id ≡ badge.old.id)
+            × ((v : V) × (u : V) × (badge.old.views ≡ v ∷ []) × (badge.new.views ≡ u ∷ [])
+            × M.then from v None u) }
+    {
+        // In the proof, the seats of the cells and of their block come out of the table's invariant.
+        (
+            StagedSeats {
+                marker: PhantomData,
+            },
+            Tag {
+                marker: PhantomData,
+            },
+            PlacedSeat {
+                marker: PhantomData,
+            },
+            EntryTag {
+                marker: PhantomData,
+            },
+        )
     }
 }
 

@@ -15,6 +15,11 @@ pub trait Staged<V> {
     ghost shows: { Stage → V };
 }
 
+/// Says how far the cell of each place is when the table is made, by the data of its rule.
+pub trait Opened<K> {
+    ghost opened_at: { K → ℕ → Stage };
+}
+
 /// Says how a caller's seat goes along with one step on a cell.
 pub trait CellPlay<V> {
     // The step.

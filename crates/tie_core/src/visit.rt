@@ -132,3 +132,22 @@ impl EntrySeat {
         let Self { marker: _ } = self;
     }
 }
+
+/// The seat of a block that an entry is set to when it is made. The entry takes it. It must be spent.
+pub struct PlacedSeat {
+    pub marker: PhantomData<()>,
+    pub ghost tie: { EntryTie } by { entry_tie_coded },
+    // The number of the seat.
+    pub ghost number: { ℕ },
+}
+
+impl Model for PlacedSeat {
+    ghost also_owns = { λ s. entry_seat (Some s.tie) (Some s.number) };
+}
+
+impl PlacedSeat {
+    /// Gives the seat up.
+    pub fn lose(self) {
+        let Self { marker: _ } = self;
+    }
+}

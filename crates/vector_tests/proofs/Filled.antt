@@ -17,7 +17,7 @@ use Rattle.grow_core.specs.declared.errors.AtError.TheVariants as at
 use Rattle.grow_core.specs.Token.{PlacedView}
 use Rattle.grow_core.specs.Grown.{GrownView}
 use Rattle.grow_core.specs.Growth.{Refuses, single}
-use Rattle.grow_core.specs.Vector.{VectorView, IsLaid}
+use Rattle.grow_core.specs.Vector.{VectorView}
 use Rattle.grow_core.specs.Logs.{LogsGrowth, LogsNoValue, LogsPush, LogsRefusal, LogsValue, AllFilled, IsFinishedIn, step_of, fill_steps, stop_steps, pending_look, value_look, broken_look}
 use Rattle.vector_tests.specs.Filled.{AreStepsOf, IsBesidePlace, IsDoneIn, IsStepOfRead, LogsFind, OwnsRefused}
 
@@ -50,38 +50,33 @@ steps_join a b c (es ∷ rest) ys first next = (first.0, first.1, steps_join fir
 abbrev Stepped : {X T V E : Type 0} → (X → Run) → ℕ → Result X (GrowError T V E) → Log → Log → Type 0
 Stepped run_of n result old new = (steps : List Log) × AreStepsOf run_of n result steps × Adds old steps new
 
--- every place was laid since the opening
-all_laid : {T : Type 0} (vector : VectorView T) (place : ℕ) → vector.laid ≡ 0 → IsLaid vector place
-all_laid vector place none = omega arith
-
-refusal_steps : {X T V E : Type 0} (vector : VectorView T) (run_of : X → Run) (n : ℕ) (old new : HandView) (e : GrowError T V E) → vector.laid ≡ 0
-    → LogsRefusal vector n old new e → Stepped run_of n (Err e) old.log new.log
-refusal_steps vector run_of n old new (NoMemory back) none logs =
-    (step_of memory_event, refl, one_step old.log new.log (memory_event ∷ []) logs)
-refusal_steps vector run_of n old new (Full size back) none logs =
+refusal_steps : {X T V E : Type 0} (run_of : X → Run) (n : ℕ) (old new : HandView) (e : GrowError T V E) → LogsRefusal n old new e
+    → Stepped run_of n (Err e) old.log new.log
+refusal_steps run_of n old new (NoMemory back) logs = (step_of memory_event, refl, one_step old.log new.log (memory_event ∷ []) logs)
+refusal_steps run_of n old new (Full size back) logs =
     (step_of (full_event n size), refl, one_step old.log new.log (full_event n size ∷ []) logs)
-refusal_steps vector run_of n old new (Moved size back) none logs = ([], refl, logs)
-refusal_steps vector run_of n old new (Refused run made cause) none logs =
+refusal_steps run_of n old new (Moved size back) logs = ([], refl, logs)
+refusal_steps run_of n old new (Refused run made cause) logs =
     let index : ℕ = logs.claimed.index in
-    (step_of (claim_event index run) ++ stop_steps index run made.run.n, (index, refl), logs.places (all_laid vector run.from none))
-refusal_steps vector run_of n old new (Taken place found) none logs = let opened : place < vector.laid = logs.opened in absurd (omega arith)
+    (step_of (claim_event index run) ++ stop_steps index run made.run.n, (index, refl), logs.places)
+refusal_steps run_of n old new (Taken place found) logs = absurd logs
 
-pub push_steps : {T V E : Type 0} (vector : VectorView T) (old new : HandView) (result : Result (PlacedView T) (GrowError T V E)) → vector.laid ≡ 0
-    → IfOk result (λ p. LogsPush vector old new p.place) → IfErr result (LogsRefusal vector 1 old new)
+pub push_steps : {T V E : Type 0} (old new : HandView) (result : Result (PlacedView T) (GrowError T V E))
+    → IfOk result (λ p. LogsPush old new p.place) → IfErr result (LogsRefusal 1 old new)
     → Stepped (λ (p : PlacedView T). single p.place) 1 result old.log new.log
-push_steps vector old new (Ok p) none won refused =
+push_steps old new (Ok p) won refused =
     let index : ℕ = won.claimed.index in
-    (step_of (claim_event index (single p.place)) ++ fill_steps index p.place 1, (index, refl), won.places (all_laid vector p.place none))
-push_steps {T} vector old new (Err e) none won refused = refusal_steps vector (λ (p : PlacedView T). single p.place) 1 old new e none refused
+    (step_of (claim_event index (single p.place)) ++ fill_steps index p.place 1, (index, refl), won.places)
+push_steps {T} old new (Err e) won refused = refusal_steps (λ (p : PlacedView T). single p.place) 1 old new e refused
 
 -- a growth that won
-won_steps : {T : Type 0} (V E : Type 0) (vector : VectorView T) (n : ℕ) (old new : HandView) (g : GrownView T) → vector.laid ≡ 0
-    → LogsGrowth vector AllFilled old new g.run → Stepped {X = GrownView T} {T = T} {V = V} {E = E} (λ (g : GrownView T). g.run) n (Ok g) old.log new.log
-won_steps V E vector n old new g none won =
+won_steps : {T : Type 0} (V E : Type 0) (n : ℕ) (old new : HandView) (g : GrownView T) → LogsGrowth AllFilled old new g.run
+    → Stepped {X = GrownView T} {T = T} {V = V} {E = E} (λ (g : GrownView T). g.run) n (Ok g) old.log new.log
+won_steps V E n old new g won =
     ⊎_elim
     (λ (some_places : 0 < g.run.n).
     let win = won.some some_places in let index : ℕ = win.claimed.index in
-    (step_of (claim_event index g.run) ++ fill_steps index g.run.from g.run.n, (index, refl), win.places (all_laid vector g.run.from none)))
+    (step_of (claim_event index g.run) ++ fill_steps index g.run.from g.run.n, (index, refl), win.places))
     (λ (no_places : g.run.n ≤ 0).
     let zero_places : g.run.n ≡ 0 = omega arith in
     let same : step_of (claim_event 0 g.run) ≡ step_of (claim_event 0 g.run) ++ fill_steps 0 g.run.from g.run.n =
@@ -89,24 +84,23 @@ won_steps V E vector n old new g none won =
     (step_of (claim_event 0 g.run), (0, same), won.empty zero_places))
     (cases_lt 0 g.run.n)
 
-pub growth_steps : {T V E : Type 0} (vector : VectorView T) (n : ℕ) (old new : HandView) (result : Result (GrownView T) (GrowError T V E)) → vector.laid ≡ 0
-    → IfOk result (λ g. LogsGrowth vector AllFilled old new g.run) → IfErr result (LogsRefusal vector n old new)
+pub growth_steps : {T V E : Type 0} (n : ℕ) (old new : HandView) (result : Result (GrownView T) (GrowError T V E))
+    → IfOk result (λ g. LogsGrowth AllFilled old new g.run) → IfErr result (LogsRefusal n old new)
     → Stepped (λ (g : GrownView T). g.run) n result old.log new.log
-growth_steps {T} {V} {E} vector n old new (Ok g) none won refused = won_steps V E vector n old new g none won
-growth_steps {T} vector n old new (Err e) none won refused = refusal_steps vector (λ (g : GrownView T). g.run) n old new e none refused
+growth_steps {T} {V} {E} n old new (Ok g) won refused = won_steps V E n old new g won
+growth_steps {T} n old new (Err e) won refused = refusal_steps (λ (g : GrownView T). g.run) n old new e refused
 
 -- ---- A read
 
-pub found_read : {T : Type 0} (vector : VectorView T) (place : ℕ) (old new : HandView) (p : PlacedView T) → LogsValue vector place old new
-    → LogsFind vector place old new (Ok p)
-found_read vector place old new p logs = λ laid. (step_of (value_look place), refl, logs laid)
+pub found_read : {T : Type 0} (place : ℕ) (old new : HandView) (p : PlacedView T) → LogsValue place old new → LogsFind place old new (Ok p)
+found_read place old new p logs = (step_of (value_look place), refl, logs)
 
-pub missed_read : {T : Type 0} (vector : VectorView T) (place : ℕ) (old new : HandView) (e : AtError) → LogsNoValue vector place old new e
-    → LogsFind vector place old new (Err e)
-missed_read vector place old new (at.OutOfRange size) logs =
-    λ laid. (step_of (past_event place size), refl, one_step old.log new.log (past_event place size ∷ []) logs)
-missed_read vector place old new at.Pending logs = λ laid. (step_of (pending_look place), refl, logs laid)
-missed_read vector place old new (at.Broken spoilt) logs = λ laid. (step_of (broken_look place), refl, logs laid)
+pub missed_read : (T : Type 0) (place : ℕ) (old new : HandView) (e : AtError) → LogsNoValue place old new e
+    → LogsFind {T = T} place old new (Err e)
+missed_read T place old new (at.OutOfRange size) logs =
+    (step_of (past_event place size), refl, one_step old.log new.log (past_event place size ∷ []) logs)
+missed_read T place old new at.Pending logs = (step_of (pending_look place), refl, logs)
+missed_read T place old new (at.Broken spoilt) logs = (step_of (broken_look place), refl, logs)
 
 -- ---- A thread's calls
 
@@ -166,15 +160,18 @@ finished_by_look law hand old mid place above (seen, added, goes) more history =
     (subst (IsHistoryOf hand.of.limit hand.of.base hand.of.filled) all history) in
     (filled.0, subst (λ (l : Log). Contains l (fill_event filled.0 place)) (sym all) (Contains-append_left before (event ++ rest) (fill_event filled.0 place) filled.1))
 
+-- so is a place whose fill is the second step of two
+pub finished_by_second : (old new first : Log) (actor place : ℕ) → Adds old (first ∷ (fill_event actor place ∷ []) ∷ []) new → IsFinishedIn new place
+finished_by_second old new first actor place (before, claimed, (second, filled, goes)) =
+    let there : Contains second (fill_event actor place) =
+    subst (λ (l : Log). Contains l (fill_event actor place)) (sym filled.is) (Contains-push (before ++ filled.since) (fill_event actor place)) in
+    (actor, subst (λ (l : Log). Contains l (fill_event actor place)) goes.1 (Contains-append_left second goes.0 (fill_event actor place) there))
+
 -- a pushed place is filled
-pub finished_by_push : {T : Type 0} (vector : VectorView T) (old new : HandView) (place : ℕ) → vector.laid ≡ 0 → LogsPush vector old new place
-    → IsFinishedIn new.log place
-finished_by_push vector old new place none push =
+pub finished_by_push : (old new : HandView) (place : ℕ) → LogsPush old new place → IsFinishedIn new.log place
+finished_by_push old new place push =
     let index : ℕ = push.claimed.index in
-    let (first, claimed, (second, filled, goes)) = push.places (all_laid vector place none) in
-    let there : Contains second (fill_event index place) =
-    subst (λ (l : Log). Contains l (fill_event index place)) (sym filled.is) (Contains-push (first ++ filled.since) (fill_event index place)) in
-    (index, subst (λ (l : Log). Contains l (fill_event index place)) goes.1 (Contains-append_left second goes.0 (fill_event index place) there))
+    finished_by_second old.log new.log (claim_event index (single place) ∷ []) index place push.places
 
 -- the run of a refused construction is the hand's own
 refused_owned : {T V E : Type 0} (law : AddedRunsAreOwned) (vector : VectorView T) (n : ℕ) (given : V) (old new : HandView) (e : GrowError T V E)
@@ -183,7 +180,7 @@ refused_owned law vector n given old new (NoMemory back) refused = tt
 refused_owned law vector n given old new (Full size back) refused = tt
 refused_owned law vector n given old new (Moved size back) refused = tt
 refused_owned law vector n given old new (Refused run made cause) refused = law old new run refused.left.claimed
-refused_owned law vector n given old new (Taken place found) refused = tt
+refused_owned law vector n given old new (Taken place found) refused = absurd refused.left
 
 pub owned_if_refused : {X T V E : Type 0} (law : AddedRunsAreOwned) (vector : VectorView T) (n : ℕ) (given : V) (old new : HandView) (result : Result X (GrowError T V E))
     → IfErr result (Refuses vector n given old new) → IfErr result (OwnsRefused new)

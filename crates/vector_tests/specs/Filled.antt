@@ -7,15 +7,14 @@ use Rattle.grow_core.specs.declared.errors.GrowError.{GrowError}
 use Rattle.grow_core.specs.declared.errors.GrowError.TheVariants.{NoMemory, Full, Moved, Refused, Taken}
 use Rattle.grow_core.specs.declared.errors.AtError.{AtError}
 use Rattle.grow_core.specs.declared.errors.AtError.TheVariants as at
-use Rattle.grow_core.specs.Vector.{VectorView, IsLaid}
 use Rattle.grow_core.specs.Token.{PlacedView}
 use Rattle.grow_core.specs.Grown.{GrownView}
 use Rattle.grow_core.specs.Growth.{single}
 use Rattle.grow_core.specs.Logs.{step_of, fill_steps, stop_steps, pending_look, value_look, broken_look}
 
--- a growth by n places of a vector whose segments were all laid since it was opened: it returned this, and these are its
--- steps. Its run is claimed, and then each place is filled, in order; or a construction was refused, and the places after
--- those that were made are broken; or it is the event whose reply its refusal is. No place is taken
+-- a growth by n places returned this, and these are its steps. Its run is claimed, and then each place is filled, in order;
+-- or a construction was refused, and the places after those that were made are broken; or it is the event whose reply its
+-- refusal is. No place is taken
 abbrev pub AreStepsOf : {X T V E : Type 0} → (X → Run) → ℕ → Result X (GrowError T V E) → List Log → Type 0
 AreStepsOf run_of n (Ok x) steps =
     (index : ℕ) × (steps ≡ step_of (claim_event index (run_of x)) ++ fill_steps index (run_of x).from (run_of x).n)
@@ -33,10 +32,9 @@ IsStepOfRead place (Err (at.OutOfRange size)) steps = steps ≡ step_of (past_ev
 IsStepOfRead place (Err at.Pending) steps = steps ≡ step_of (pending_look place)
 IsStepOfRead place (Err (at.Broken spoilt)) steps = steps ≡ step_of (broken_look place)
 
--- the same, of a hand: what the read returned is what it has added, if the place's segment was laid since the opening
-abbrev pub LogsFind : {T : Type 0} → VectorView T → ℕ → HandView → HandView → Result (PlacedView T) AtError → Type 0
-LogsFind vector place old new result =
-    IsLaid vector place → (steps : List Log) × IsStepOfRead place result steps × Adds old.log steps new.log
+-- the same, of a hand: what the read returned is what it has added
+abbrev pub LogsFind : {T : Type 0} → ℕ → HandView → HandView → Result (PlacedView T) AtError → Type 0
+LogsFind place old new result = (steps : List Log) × IsStepOfRead place result steps × Adds old.log steps new.log
 
 -- a thread pushed, grew by n places, failed a construction of n places, read a place, and asked for the size: the history
 -- has the results, in this order

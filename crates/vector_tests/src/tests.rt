@@ -28,6 +28,7 @@ mod tokens;
 mod tries;
 mod uses;
 mod ways;
+mod whole_life;
 
 use callers::Callers;
 use steps::Call::{Push, Read, Seen, Share, Size, TryGrow, TryPush};

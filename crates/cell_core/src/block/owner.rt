@@ -85,8 +85,10 @@ impl<T, A: Allocator, B: Kind> Block<T, A, B> {
         ensures member { IsMemberAt self.new offset result }
         ensures name { result.name ≡ (cell_at self.old offset).value_name }
         ensures kept { known.now.value ≢ None → result.value ≡ known.now.value }
+        ensures filled { result.value ≢ None → self.new ≡ self.old }
         ensures stage { HasValueByStage (cell_at self.old offset) result.value }
         ensures epoch { result.value ≡ None → result.epoch ≡ epoch.now }
+        ensures fixed { result.value ≡ None → FixesTie self.old self.new offset Broken }
         ensures plain { StaysPlain self.old self.new offset }
         ensures len { block_len self.new ≡ block_len self.old }
         ensures others { KeepsOtherCells self.old self.new offset }

@@ -6,20 +6,20 @@ ghost use prog.Memory.{capped};
 ghost use denote.RawPtr.{Ptr, coded_ptr};
 ghost use Rattle.cell_core.specs.Slot.{Names, names_coded, cell_in, step, filled_state, owner_broken_state};
 ghost use Rattle.cell_core.specs.Laid.{Extent, extent_coded, rooms_owned, laid, laid_lent, word_cells, FitsMemory, IsLinked, IsFieldOf, HasMore, HasMoreTied, HasOneRenamed, IsFixedAt};
-ghost use Rattle.cell_core.specs.Fixed.{HasValueByStage};
+ghost use Rattle.cell_core.specs.Fixed.{HasValueByStage, AreTies, AreAtStages, AreBrokenFor, tied_cells};
 ghost use Rattle.tie_core.specs.Tie.{Idle, Filled, Broken};
 ghost use Rattle.cell_core.specs.Member.{AreUntied, KnowsCells, Settles};
 ghost use Rattle.cell_core.specs.Run.{cells_from};
 
 use crate::block::fields::{keep_of, state_in, word_of};
-use crate::slot::epoch::RawEpoch;
+use crate::slot::epoch::{RawEnded, RawEpoch};
 use crate::slot::member::{RawMember, RawRow};
 use crate::slot::run::RawCells;
 use crate::slot::steps::{FILLED, RawSlot, Written};
 use std::alloc::{AllocError, Allocator};
 use std::marker::{Model, PhantomData};
 use std::mem::{align_of, size_of};
-use tie_core::Seats;
+use tie_core::{Seats, StagedSeats};
 
 // The addresses of the row of words and of the row of rooms. It owns nothing.
 pub(crate) struct Link<T> {
@@ -177,6 +177,19 @@ impl<T, A: Allocator> Laid<T, A> {
         ensures { (self.new.heap ≡ self.old.heap) × (self.new.rows ≡ self.old.rows)
             × AreUntied self.old.cells self.new.cells × KnowsCells row.now.of from self.new.cells }
     {}
+
+    // The same cells, which have no seats, with these: each seat is at the stage of its cell. A cell that an owner broke
+    // gets a seat by evidence that the epoch has ended. Returns a value with no seats left. It is no instruction.
+    pub(crate) fn retie(&mut self, seats: StagedSeats, ended: &RawEnded) -> StagedSeats
+        requires { (length seats.ties ≡ length self.old.cells)
+            × (length seats.stages ≡ length self.old.cells) × AreTies seats.ties
+            × AreAtStages seats.stages self.old.cells
+            × AreBrokenFor seats.stages self.old.cells (ended.now.of ∷ []) }
+        ensures { (self.new.heap ≡ self.old.heap) × (self.new.rows ≡ self.old.rows)
+            × (self.new.cells ≡ tied_cells seats.ties self.old.cells) }
+    {
+        seats
+    }
 
     // One more word, of `n` empty cells.
     pub(crate) fn push(&mut self, words: *mut u64, word: usize, n: usize)

@@ -1,9 +1,10 @@
 // Steps on cells that are tied to a table. Each call has one atomic step, which is its linearization point and runs an
 // update that the caller brings.
-ghost use Rattle.std.specs.Prelude.{◌≡◌, ◌≢◌, ◌<◌, ◌≤◌, ◌+◌, ℕ, Some, None, IfOk, IfErr, length};
-ghost use Rattle.cell_core.specs.Block.{block_len, cell_at, IsPenAt, IsFresh, IsMending};
+ghost use Rattle.std.specs.Prelude.{◌≡◌, ◌<◌, ◌≤◌, ◌+◌, ℕ, Some, None, IfOk, IfErr, length};
+ghost use Rattle.cell_core.specs.Block.{block_len, cell_at, IsPenAt, IsBrokenState, IsFresh, IsMending};
 ghost use Rattle.cell_core.specs.Shown.{IsFoundIn, IsFoundOf, IsLookAt, IsLookOf, IsNotBroken};
-ghost use Rattle.cell_core.specs.Slot.{AreTied, empty_state, broken_state};
+ghost use Rattle.cell_core.specs.Slot.{AreTied, empty_state, filled_state};
+ghost use Rattle.cell_core.specs.Fixed.{AreTies};
 ghost use Rattle.cell_core.specs.Member.{IsUntied, KnowsCells};
 ghost use Rattle.cell_core.specs.Mould.{first_seat, last_seat, mould_of, row_mould, tie_in};
 ghost use Rattle.cell_core.specs.Run.{AreTiedTo, cells_from};
@@ -14,7 +15,7 @@ use crate::block::fields::{all_but, in_field, state_in};
 use crate::block::{
     Block, First, Found, Look, Pen, Placed, Row, Spoilt, Tied, lay_for, reserve_rows,
 };
-use crate::slot::steps::{BROKEN, BUSY, FILLED};
+use crate::slot::steps::{BROKEN, BROKEN_BY_OWNER, BUSY, FILLED};
 use std::alloc::{AllocError, Allocator};
 use std::marker::PhantomData;
 use tie_core::{Book, Numbered, Offer, Seats, TiedCells};
@@ -79,8 +80,8 @@ impl<T, A: Allocator> Block<T, A, Tied> {
     }
 
     /// Shows a proof how cells whose seats have numbers in a row are tied, and what the mould of a block tells: the
-    /// seats have numbers in a row from the first one's on, and the block's own seat is the one behind them. The call
-    /// does nothing.
+    /// seats have numbers in a row from the first one's on, and the block's own seat is the one behind them. Each of
+    /// such ties is one. The call does nothing.
     pub fn ties_laws(&self)
         ensures row { (t : Tie) (n i : ℕ) → AreTied (row_of t n) self.now.cells → i < n
             → (cell_at self.now i).tied ≡ Some (tie_further t i) }
@@ -93,6 +94,7 @@ impl<T, A: Allocator> Block<T, A, Tied> {
             → AreTiedTo (run_of (tie_further t offset) n) (cells_from n offset self.now.cells) }
         ensures last { (t : Tie) (n : ℕ) → AreTied (row_of t n) self.now.cells → 0 < n
             → last_seat self.now.cells ≡ t.id + n }
+        ensures ties { (t : Tie) (n : ℕ) → AreTies (row_of t n) }
     {}
 
     /// Looks at what a tied cell shows now, by one load. The offer's update runs in the load. A cell that is begun
@@ -146,8 +148,9 @@ impl<T, A: Allocator> Block<T, A, Tied> {
         (pen, offer)
     }
 
-    /// Takes a tied cell that is broken by one step from broken to busy. The offer's update runs in the step, whatever
-    /// the step finds. If an owner broke the cell, this returns `Found::Broken`; such a cell has no seat.
+    /// Takes a broken cell by one step from broken to busy, whoever broke it. The cell has a seat, so if an owner broke
+    /// it, the owner's epoch has ended. The offer's update runs in the step, whatever the step finds. If the call does
+    /// not take the cell, it did not find it broken.
     #[tactic(auto, using(crate::proofs::FoundCells::not_broken))]
     pub fn mend_for<'a, 'b, X, K: Book<X>>(
         &'a self,
@@ -157,19 +160,21 @@ impl<T, A: Allocator> Block<T, A, Tied> {
         requires within { offset < block_len self.now }
         requires tie { (cell_at self.now offset).tied ≡ Some offer.tie }
         requires step { (offer.step ≡ mends) × (offer.made ≡ None) }
+        requires seated { offer.tie.fixed ≡ None }
         ensures pen { IfOk result.0 (IsPenAt self.now offset) }
         ensures broken { IfOk result.0 IsMending }
+        ensures made { IfOk result.0 (λ _.
+            (n : ℕ) × IsBrokenState n × HasMade mends n result.1.made) }
         ensures found { IfErr result.0 (IsFoundIn self.now offset) }
-        ensures made { IfOk result.0 (λ _. HasMade mends broken_state result.1.made) }
+        ensures not_broken { IfErr result.0 IsNotBroken }
         ensures lost { IfErr result.0 (λ found.
-            (n : ℕ) × HasMade mends n result.1.made × (n ≢ broken_state) × IsFoundOf n found) }
-        ensures seated { offer.entry.tie.fixed ≡ None → IfErr result.0 IsNotBroken }
+            (n : ℕ) × HasMade mends n result.1.made × (n ≤ filled_state) × IsFoundOf n found) }
         ensures offer { (result.1.tie ≡ offer.entry.tie) × (result.1.about ≡ offer.entry.about) }
     {
-        let mask = all_but(BROKEN - BUSY, offset);
+        let mask = all_but(BROKEN - BUSY + (BROKEN_BY_OWNER - BUSY), offset);
         let (word, pen, offer) = self.cell(offset).mend_for(mask, offer);
         let found = state_in(word, offset);
-        if found == BROKEN {
+        if found > FILLED {
             let pen = Pen {
                 offset,
                 pen,

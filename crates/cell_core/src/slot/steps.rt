@@ -7,7 +7,7 @@ ghost use Rattle.std.specs.Coded.{coded_option};
 ghost use Rattle.cell_core.specs.Fields.{field};
 ghost use Rattle.cell_core.specs.Fixed.{ShowsStage};
 ghost use Rattle.tie_core.specs.Tie.{Filled, Broken, HasMade, begins, breaks, fills, looks, mends};
-ghost use Rattle.cell_core.specs.Slot.{Names, IsPlain, ShowsOwner, names_coded, break_added, fill_added, writer_stage, slot_owned, pen_owned, sighted, written, was_broken};
+ghost use Rattle.cell_core.specs.Slot.{Names, IsPlain, SeeksBroken, names_coded, break_added, fill_added, writer_stage, slot_owned, pen_owned, sighted, written, was_broken};
 ghost use Rattle.cell_core.specs.Slot.{empty_state, busy_state, filled_state, broken_state, owner_broken_state};
 ghost use Rattle.cell_core.specs.Member.{HasNames, IsStateOf, MayBeStateOf, IsEpochOf};
 
@@ -213,7 +213,8 @@ impl<'a, T> RawSlot<'a, T> {
         (RawPen { word, room, marker }, offer)
     }
 
-    // The step of a tied cell from broken to busy, which leaves any other state. The caller's update runs in it.
+    // The step of a cell with a seat from broken to busy, whoever broke the cell: a cell has a seat only if its epoch
+    // has ended. It leaves any other state. The caller's update runs in it.
     #[inline(always)]
     pub(crate) fn mend_for<'b, X, K: Book<X>>(
         self,
@@ -221,14 +222,14 @@ impl<'a, T> RawSlot<'a, T> {
         offer: Offer<'b, X, K>,
     ) -> (u64, RawPen<'a, T>, Offer<'b, X, K>)
         requires { (self.of.tied ≡ Some offer.tie) × (offer.step ≡ mends) × (offer.made ≡ None)
-            × (mask ≡ 2 ^ 64 - 1 - 4 * 16 ^ self.index) }
+            × (mask ≡ 2 ^ 64 - 1 - 12 * 16 ^ self.index) × (offer.tie.fixed ≡ None) }
         ensures { (result.1.of ≡ self.entry.of) × (result.1.index ≡ self.entry.index)
-            × (result.1.first ≡ false) × (result.1.sought ≡ broken_state)
+            × (result.1.first ≡ false)
+            × SeeksBroken (field result.0 self.entry.index) result.1.sought
             × (result.1.found ≡ field result.0 self.entry.index)
             × (result.2.tie ≡ offer.entry.tie) × (result.2.about ≡ offer.entry.about)
             × (result.2.step ≡ offer.entry.step)
-            × HasMade mends (field result.0 self.entry.index) result.2.made
-            × ShowsOwner self.entry.of.tied (field result.0 self.entry.index) }
+            × HasMade mends (field result.0 self.entry.index) result.2.made }
     {
         let RawSlot { word, room, marker } = self;
         let found = unsafe { raw::fetch_and::<Brand>(word, mask, SeqCst) };

@@ -1,13 +1,14 @@
 // A hand lends its seat to steps on tied cells, and takes it back: what its caller then proves, by the public
 // clauses of the crates alone.
-ghost use Rattle.std.specs.Prelude.{◌≡◌, ◌<◌, ◌≤◌, [], ◌∷◌, Some};
+ghost use Rattle.std.specs.Prelude.{◌≡◌, ◌<◌, ◌≤◌, [], ◌∷◌, Some, IfOk};
 ghost use Rattle.std.specs.List.{Contains};
-ghost use Rattle.cell_core.specs.Block.{block_len, cell_at};
+ghost use Rattle.cell_core.specs.Block.{block_len, cell_at, IsPenAt};
 ghost use Rattle.claim_core.specs.Hand.{IsHandOf, IsWholeHand, OwnsPlace, seen_size};
 ghost use Rattle.claim_core.specs.Gain.{IsEntryTo, IsTiedTo};
 ghost use Rattle.claim_core.specs.Plays.{block_view};
 ghost use Rattle.claim_core.specs.Ties.{Finds};
 ghost use Rattle.memory_tests.specs.Offers.{HasFilled, HasLooked, HasTried};
+ghost use Rattle.memory_tests.specs.Opened.{GoesOn};
 
 use atomic_table::Badge;
 use cell_core::block::{Block, Found, Look, Pen, Placed, Tied};
@@ -17,7 +18,7 @@ use std::marker::Brand;
 use std::test::Fail;
 
 // A look at a place that the hand has seen is logged with what the cell shows.
-fn look_at<'a, A: Allocator>(
+pub(crate) fn look_at<'a, A: Allocator>(
     word: &Word<A>,
     hand: &mut Hand,
     cells: &'a Block<u64, Global, Tied>,
@@ -32,6 +33,7 @@ fn look_at<'a, A: Allocator>(
     requires found { Finds hand.old.rows place tag.now.tie.id }
     requires seen { place < seen_size hand.old }
     ensures looked { HasLooked place hand.old hand.new }
+    ensures goes_on { GoesOn hand.old hand.new }
 {
     let offer = hand.offer_look(word, tag, place);
     let (look, offer) = cells.look_for(offset, offer);
@@ -40,7 +42,7 @@ fn look_at<'a, A: Allocator>(
 }
 
 // A hand that owns a place, and does not know it begun, may begin and fill it. Its history then has the fill.
-fn fill_own<A: Allocator>(
+pub(crate) fn fill_own<A: Allocator>(
     word: &Word<A>,
     hand: &mut Hand,
     cells: &Block<u64, Global, Tied>,
@@ -55,6 +57,7 @@ fn fill_own<A: Allocator>(
     requires found { Finds hand.old.rows place tag.now.tie.id }
     requires own { OwnsPlace hand.old place }
     requires unknown { Contains hand.old.begun place → ⊥ }
+    ensures of { hand.new.of ≡ hand.old.of }
     ensures filled { HasFilled place hand.old hand.new }
 {
     laws::runs_are_apart();
@@ -68,9 +71,8 @@ fn fill_own<A: Allocator>(
     placed
 }
 
-// A try to mend a place that the hand has seen is logged as the mend, or as a look at what the cell shows. The cell has a
-// seat, so it was not broken by an owner.
-fn try_mend<'a, A: Allocator>(
+// A try to mend a place that the hand has seen is logged as the mend, or as a look at what the cell shows.
+pub(crate) fn try_mend<'a, A: Allocator>(
     word: &Word<A>,
     hand: &mut Hand,
     cells: &'a Block<u64, Global, Tied>,
@@ -84,7 +86,9 @@ fn try_mend<'a, A: Allocator>(
     requires tied { IsTiedTo word.now tag.now.tie }
     requires found { Finds hand.old.rows place tag.now.tie.id }
     requires seen { place < seen_size hand.old }
+    ensures pen { IfOk result (IsPenAt cells.now offset) }
     ensures tried { HasTried place hand.old hand.new result }
+    ensures goes_on { GoesOn hand.old hand.new }
 {
     let offer = hand.offer_mend(word, tag, place);
     let (taken, offer) = cells.mend_for(offset, offer);
@@ -104,7 +108,6 @@ fn lend_to_exchange<R: EntryAt, A: Allocator>(
     requires ours { IsHandOf word.now hand.old }
     requires tied { IsEntryTo word.now tag.now.tie }
     requires places { (R.from ≡ tag.now.from) × (R.n ≡ tag.now.n) × (R.first ≡ cell.now.tie.id) }
-    requires past { hand.old.of.base ≤ R.from }
     requires block { (block.old.table_id ≡ word.now.table)
         × (block.old.views ≡ block_view R.first R.n ∷ []) }
     ensures seen { result ≡ seen_size hand.old }

@@ -1,9 +1,10 @@
 // Calls on entries that are tied to a table of `atomic_table`. A step on such an entry runs a visit of its caller.
 ghost use Rattle.std.specs.Prelude.{◌≡◌, ◌<◌, ℕ, Some, None, IfOk, IfSome, option_map, slice_index};
-ghost use Rattle.cell_core.specs.Mould.{last_seat};
+ghost use Rattle.cell_core.specs.Block.{block_len};
+ghost use Rattle.cell_core.specs.Mould.{last_seat, mould_of, row_mould};
 ghost use Rattle.seg_core.specs.Segment.{segment_count};
 ghost use Rattle.cell_core.specs.Slot.{ArePlain};
-ghost use Rattle.table_core.specs.Table.{HasSet, IsBlockOf, IsKeyOf, IsPlainAt, IsTiedBlockOf, IsTiedBy, KeepsOtherBonds, KeepsOtherEntries, RenewsEntry, content_in, entry_tie};
+ghost use Rattle.table_core.specs.Table.{HasSet, IsBlockOf, IsKeyIn, IsKeyOf, IsPlainAt, IsTiedBlockOf, IsTiedBy, KeepsOtherBonds, KeepsOtherEntries, RenewsEntry, content_in, entry_tie};
 
 use crate::entry::{Entry, EntrySight};
 use crate::table::{Key, Table};
@@ -11,7 +12,7 @@ use cell_core::block::{Block, Tied};
 use seg_core::Layout;
 use std::alloc::{AllocError, Global};
 use std::mem::replace;
-use tie_core::{EntryBook, EntrySeat, Staged, Tag, Visit};
+use tie_core::{EntryBook, EntrySeat, PlacedSeat, Staged, Tag, Visit};
 
 impl<T> Table<T, Tied> {
     /// Makes a table without blocks, whose entries may be tied; none is yet. It takes no memory from the allocator.
@@ -19,6 +20,7 @@ impl<T> Table<T, Tied> {
         ensures layout { result.layout ≡ layout }
         ensures untied { (k : ℕ) → k < segment_count layout → entry_tie result k ≡ None }
         ensures plain { (k : ℕ) → k < segment_count layout → IsPlainAt result k }
+        ensures none_lent { result.lent ≡ None }
     {
         Table::without_blocks(alloc, layout)
     }
@@ -91,6 +93,27 @@ impl<T> Table<T, Tied> {
         new.rename(&mut self.entries[segment as usize]);
         replace(&mut self.entries[segment as usize], new).free();
     }
+
+    /// Returns the key's block like `known`, by one load. The visit's update runs in the load.
+    pub fn known_for<'a, 'b, X, K: EntryBook<X>>(
+        &'a self,
+        key: &Key,
+        visit: Visit<'b, X, K>,
+    ) -> (&'a Block<T, Global, Tied>, Visit<'b, X, K>)
+        requires key { IsKeyIn self.now key.now }
+        requires visit { (entry_tie self.now key.now.segment ≡ Some visit.tie) × (visit.brought ≡ None)
+            × (visit.made ≡ None) }
+        ensures block { result.0.now ≡ key.now.block }
+        ensures tied { IsTiedBlockOf self.now key.now.segment key.now.block }
+        ensures made { result.1.made ≡ Some (Some (last_seat key.now.block.cells)) }
+        ensures visit { (result.1.tie ≡ visit.entry.tie) × (result.1.about ≡ visit.entry.about) }
+    {
+        let mut sight = key.sight.again::<T, Tied>();
+        match self.entries[key.segment as usize].look_for(&mut sight, visit) {
+            (Some(block), visit) => (block, visit),
+            (None, _) => unreachable!(),
+        }
+    }
 }
 
 impl<T: Drop> Table<T, Tied> {
@@ -148,6 +171,40 @@ impl<T: Drop> Table<T, Tied> {
             sight: sight.again(),
         };
         Ok((block, key))
+    }
+
+    /// Sets the entry to the block, like `attach`, and ties it by the block's own seat. The cells of the block have
+    /// seats with numbers in a row, of which the block's own is the next, and the codes of the tag. A block that the
+    /// entry was set to before is dropped. No block may be lent. It takes no memory.
+    #[tactic(auto, using(crate::proofs::Bonds::attached_placed))]
+    pub fn attach_placed<V, P: Staged<V>>(
+        &mut self,
+        segment: u32,
+        block: Box<Block<T, Global, Tied>>,
+        seat: PlacedSeat,
+        cells: &Tag<V, P>,
+    ) -> Key
+        requires within { segment < segment_count self.old.layout }
+        requires length { IsBlockOf self.old.layout segment block.value }
+        requires mould { mould_of block.value.cells
+            ≡ row_mould cells.now.tie (block_len block.value) }
+        requires number { seat.number ≡ last_seat block.value.cells }
+        requires none_lent { self.old.lent ≡ None }
+        ensures tied { IsTiedBy self.new segment seat.tie cells.now.tie }
+        ensures key { IsKeyOf self.new segment block.value result }
+        ensures layout { self.new.layout ≡ self.old.layout }
+        ensures others { KeepsOtherEntries self.old self.new segment }
+        ensures bonds { KeepsOtherBonds self.old self.new segment }
+        ensures none_lent { self.new.lent ≡ None }
+    {
+        let (entry, sight) = Entry::filled_placed(block, seat);
+        self.held = None;
+        self.entries[segment as usize] = entry;
+        Key {
+            layout: self.layout,
+            segment: segment as u8,
+            sight: sight.again(),
+        }
     }
 
     // The block of a tied entry: the given one, unless the entry is set.

@@ -17,7 +17,6 @@ pub(super) fn empty<T: Drop>(alloc: Global, limit: u64) -> Result<(Shared<T>, Ha
     requires { IsLimit limit }
     ensures limit { IfOk result (λ (vector, _). limit_of vector ≡ limit) }
     ensures base { IfOk result (λ (vector, _). base_of vector ≡ 0) }
-    ensures laid { IfOk result (λ (vector, _). vector.laid ≡ 0) }
     ensures hand { IfOk result (λ (vector, hand). IsNewHand vector.word hand) }
 {
     empty_in(alloc, Layout::default(), limit)
@@ -32,7 +31,6 @@ fn empty_in<T: Drop>(
     requires { IsLimit limit }
     ensures limit { IfOk result (λ (vector, _). limit_of vector ≡ limit) }
     ensures base { IfOk result (λ (vector, _). base_of vector ≡ 0) }
-    ensures laid { IfOk result (λ (vector, _). vector.laid ≡ 0) }
     ensures hand { IfOk result (λ (vector, hand). IsNewHand vector.word hand) }
 {
     match Shared::of_parts(Parts::new_in(alloc, layout, limit)) {

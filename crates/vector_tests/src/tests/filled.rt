@@ -9,7 +9,7 @@ ghost use Rattle.grow_core.specs.Closing.{IsListOfHistory};
 ghost use Rattle.grow_core.specs.Hand.{OwnsRun};
 ghost use Rattle.grow_core.specs.Growth.{single};
 ghost use Rattle.grow_core.specs.Logs.{IsFinishedIn};
-ghost use Rattle.grow_core.specs.Vector.{IsHandOf, IsLaid, IsPlacedOf, base_of, limit_of};
+ghost use Rattle.grow_core.specs.Vector.{IsHandOf, IsPlacedOf, base_of, limit_of};
 ghost use Rattle.vector_tests.specs.Filled.{IsBesidePlace, IsDoneIn, LogsFind, OwnsRefused};
 
 use super::callers::empty;
@@ -36,8 +36,8 @@ struct Answers {
 fn find(vector: &Shared<u64>, hand: &mut Hand<u64>, place: u64) -> Result<Placed<u64>, AtError>
     requires ours { IsHandOf vector.now hand.old }
     ensures token { IfOk result (λ p. IsPlacedOf vector.now p × (p.place ≡ place)) }
-    ensures looks { LogsFind vector.now place hand.old hand.new result }
-    ensures finished { IsFinishedIn hand.old.log place → IsLaid vector.now place → IsOk result }
+    ensures looks { LogsFind place hand.old hand.new result }
+    ensures finished { IsFinishedIn hand.old.log place → IsOk result }
     ensures kept { (hand.new.of ≡ hand.old.of) × (hand.new.shares ≡ hand.old.shares) }
 {
     match vector.at(hand, place, None) {
@@ -50,7 +50,6 @@ fn find(vector: &Shared<u64>, hand: &mut Hand<u64>, place: u64) -> Result<Placed
 // asks for the size.
 fn work_in_turn(vector: &Shared<u64>, mut hand: Hand<u64>, value: u64) -> (Hand<u64>, Answers)
     requires ours { IsHandOf vector.now hand }
-    requires laid { vector.now.laid ≡ 0 }
     ensures of { result.0.of ≡ vector.now.word }
     ensures shares { result.0.shares ≡ hand.shares }
     ensures done { IsDoneIn hand.log 2 result.1.place result.1.pushed result.1.grown result.1.failed
@@ -84,7 +83,6 @@ fn work_by_two<R: Threads + Sync>(
 ) -> (Hand<u64>, Answers, Answers)
     requires ours { IsHandOf vector.now a }
     requires also_ours { IsHandOf vector.now b }
-    requires laid { vector.now.laid ≡ 0 }
     ensures of { result.0.of ≡ vector.now.word }
     ensures shares { result.0.shares ≡ a.shares + b.shares }
     ensures first { IsDoneIn a.log 2 result.1.place result.1.pushed result.1.grown result.1.failed
@@ -95,14 +93,14 @@ fn work_by_two<R: Threads + Sync>(
     let ((mut all, first), (other, second)) = join(
         rt,
         || -> (Hand<u64>, Answers)
-            requires { IsHandOf vector.now a × (vector.now.laid ≡ 0) }
+            requires { IsHandOf vector.now a }
             ensures of { result.0.of ≡ vector.entry.now.word }
             ensures shares { result.0.shares ≡ a.shares }
             ensures done { IsDoneIn a.log 2 result.1.place result.1.pushed result.1.grown
                 result.1.failed result.1.read result.1.size result.0.log }
         { work_in_turn(vector, a, 5) },
         || -> (Hand<u64>, Answers)
-            requires { IsHandOf vector.now b × (vector.now.laid ≡ 0) }
+            requires { IsHandOf vector.now b }
             ensures of { result.0.of ≡ vector.entry.now.word }
             ensures shares { result.0.shares ≡ b.shares }
             ensures done { IsDoneIn b.log 2 result.1.place result.1.pushed result.1.grown
@@ -127,7 +125,6 @@ fn work_by_three<R: Threads + Sync>(
     requires also_ours { IsHandOf vector b }
     requires third_ours { IsHandOf vector c }
     requires whole { a.shares + b.shares + c.shares ≡ all_shares }
-    requires laid { vector.laid ≡ 0 }
     ensures { (log : Log)
         × IsHistoryOf (limit_of vector) (base_of vector) vector.word.filled log
         × IsDoneIn a.log 2 result.1.place result.1.pushed result.1.grown result.1.failed result.1.read result.1.size log
@@ -139,15 +136,14 @@ fn work_by_three<R: Threads + Sync>(
     let ((mut all, first), (other, second, third)) = join(
         rt,
         || -> (Hand<u64>, Answers)
-            requires { IsHandOf vector_ref.now a × (vector_ref.now.laid ≡ 0) }
+            requires { IsHandOf vector_ref.now a }
             ensures of { result.0.of ≡ vector_ref.entry.now.word }
             ensures shares { result.0.shares ≡ a.shares }
             ensures done { IsDoneIn a.log 2 result.1.place result.1.pushed result.1.grown
                 result.1.failed result.1.read result.1.size result.0.log }
         { work_in_turn(vector_ref, a, 4) },
         || -> (Hand<u64>, Answers, Answers)
-            requires { IsSync R.row × IsHandOf vector_ref.now b × IsHandOf vector_ref.now c
-                × (vector_ref.now.laid ≡ 0) }
+            requires { IsSync R.row × IsHandOf vector_ref.now b × IsHandOf vector_ref.now c }
             ensures of { result.0.of ≡ vector_ref.entry.now.word }
             ensures shares { result.0.shares ≡ b.shares + c.shares }
             ensures first { IsDoneIn b.log 2 result.1.place result.1.pushed result.1.grown
@@ -190,7 +186,6 @@ fn find_here_read_there<R: Threads + Sync>(
 fn find_again(vector: &Shared<u64>, hand: &mut Hand<u64>, token: &Placed<u64>) -> u64
     requires ours { IsHandOf vector.now hand.old }
     requires also_ours { IsPlacedOf vector.now token.now }
-    requires laid { vector.now.laid ≡ 0 }
     requires finished { IsFinishedIn hand.old.log token.now.place }
     ensures { result ≡ token.now.value }
 {
@@ -210,7 +205,6 @@ fn find_after_meeting(
 ) -> Option<(u64, u64)>
     requires ours { IsHandOf vector.now a.old }
     requires also_ours { IsHandOf vector.now b.old }
-    requires laid { vector.now.laid ≡ 0 }
     requires unopened { base_of vector.now ≡ 0 }
     // It is `None` only if the first reader has found no value.
     ensures found { IsFinishedIn a.old.log place → IsSome result }
@@ -234,7 +228,6 @@ fn push_one(
     value: u64,
 ) -> (Hand<u64>, Option<Placed<u64>>)
     requires ours { IsHandOf vector.now hand }
-    requires laid { vector.now.laid ≡ 0 }
     ensures of { result.0.of ≡ vector.now.word }
     ensures owned { IfSome result.1 (λ p. OwnsRun result.0 (single p.place)) }
     ensures filled { IfSome result.1 (λ p. IsFinishedIn result.0.log p.place) }
@@ -268,7 +261,6 @@ fn fail_one(
     mut hand: Hand<u64>,
 ) -> (Hand<u64>, Option<GrowError<u64, (), Stopped>>)
     requires ours { IsHandOf vector.now hand }
-    requires laid { vector.now.laid ≡ 0 }
     ensures of { result.0.of ≡ vector.now.word }
     ensures owned { IfSome result.1 (OwnsRefused result.0) }
 {
@@ -289,7 +281,6 @@ fn fail_beside<R: Threads + Sync>(
 ) -> Option<(Hand<u64>, Placed<u64>, u64, GrowError<u64, (), Stopped>)>
     requires ours { IsHandOf vector.now a }
     requires also_ours { IsHandOf vector.now b }
-    requires laid { vector.now.laid ≡ 0 }
     ensures filled { IfSome result (λ (hand, placed, _, _). IsFinishedIn hand.log placed.place) }
     ensures beside { IfSome result (λ (_, placed, _, refused). IsBesidePlace placed.place refused) }
     ensures value { IfSome result (λ (_, _, read, _). read ≡ value) }
@@ -297,14 +288,14 @@ fn fail_beside<R: Threads + Sync>(
     let (placed, failed) = join(
         rt,
         || -> (Hand<u64>, Option<Placed<u64>>)
-            requires { IsHandOf vector.now a × (vector.now.laid ≡ 0) }
+            requires { IsHandOf vector.now a }
             ensures of { result.0.of ≡ vector.entry.now.word }
             ensures owned { IfSome result.1 (λ p. OwnsRun result.0 (single p.place)) }
             ensures filled { IfSome result.1 (λ p. IsFinishedIn result.0.log p.place) }
             ensures token { IfSome result.1 (λ p. IsPlacedOf vector.entry.now p × (p.value ≡ value)) }
         { push_one(vector, a, value) },
         || -> (Hand<u64>, Option<GrowError<u64, (), Stopped>>)
-            requires { IsHandOf vector.now b × (vector.now.laid ≡ 0) }
+            requires { IsHandOf vector.now b }
             ensures of { result.0.of ≡ vector.entry.now.word }
             ensures owned { IfSome result.1 (OwnsRefused result.0) }
         { fail_one(vector, b) },

@@ -20,7 +20,7 @@ fn append_three(parts: &mut Parts<u64>, value: u64)
 }
 
 // A list of these, if there is memory for it.
-fn one_of_three(alloc: Global, value: u64) -> Option<Parts<u64>>
+pub(super) fn one_of_three(alloc: Global, value: u64) -> Option<Parts<u64>>
     ensures { IfSome result (λ parts. parts.members ≡ Some value ∷ None ∷ None ∷ []) }
 {
     let mut parts = Parts::new(alloc, 8);

@@ -4,7 +4,7 @@ ghost use Rattle.grow_core.specs.Hand.{seen_size};
 ghost use Rattle.grow_core.specs.Vector.{IsHandOf, limit_of};
 
 use super::callers::{Callers, list};
-use grow_core::{Found, GrowError, Hand, Shared};
+use grow_core::{GrowError, Hand, Shared};
 use std::alloc::AllocGlobal;
 use std::process::Abort;
 
@@ -61,39 +61,21 @@ fn push_without_memory(vector: &Shared<u64>, hand: &mut Hand<u64>, value: u64) -
     reported
 }
 
-// A place that was taken lies below the size that the hand has then seen.
-fn grow_into_taken(vector: &Shared<u64>, hand: &mut Hand<u64>, values: Vec<u64>) -> Option<u64>
+// Pushes the numbers below n, up to the first refusal, and returns how many it has pushed. There are three refusals: a place
+// is never taken.
+fn push_numbers(vector: &Shared<u64>, hand: &mut Hand<u64>, n: u64) -> u64
     requires ours { IsHandOf vector.now hand.old }
     ensures of { hand.new.of ≡ hand.old.of }
-    ensures below { IfSome result (λ place. place < seen_size hand.new) }
 {
-    let grown = vector.try_grow_vec(hand, values);
-    let reported = match &grown {
-        Err(GrowError::Taken { place, .. }) => Some(*place),
-        _ => None,
-    };
-    drop(grown);
-    reported
-}
-
-// A taken place that holds nothing yet is the place that is reported.
-fn push_into_busy(vector: &Shared<u64>, hand: &mut Hand<u64>, value: u64) -> Option<(u64, u64)>
-    requires ours { IsHandOf vector.now hand.old }
-    ensures of { hand.new.of ≡ hand.old.of }
-    ensures same { IfSome result (λ (reported, found). reported ≡ found) }
-{
-    let pushed = vector.try_push_back(hand, value);
-    let reported = match &pushed {
-        Err(
-            GrowError::Taken {
-                place,
-                found: Found::Busy(begun),
-            },
-        ) => Some((*place, begun.place())),
-        _ => None,
-    };
-    drop(pushed);
-    reported
+    for i in 0..n {
+        match vector.try_push_back(hand, i) {
+            Ok(placed) => drop(placed),
+            Err(GrowError::NoMemory { .. } | GrowError::Full { .. } | GrowError::Moved { .. }) =>
+                return i,
+            Err(_) => unreachable!(),
+        }
+    }
+    n
 }
 
 // A growth of nothing claims nothing, and returns the size that the hand has then seen.
@@ -131,10 +113,9 @@ fn seen_value(vector: &Shared<u64>, hand: &mut Hand<u64>, place: u64) -> Option<
 // Tests whether no refusal comes, if one caller is at work and there is room for four values.
 fn is_not_refused<R: AllocGlobal + Abort>(rt: &R, two: &mut Callers<u64>) -> bool {
     grow_overtaken(&two.vector, &mut two.a, list(rt, &[5])).is_none()
-        && grow_into_taken(&two.vector, &mut two.a, list(rt, &[6])).is_none()
         && push_without_memory(&two.vector, &mut two.a, 7).is_none()
-        && push_into_busy(&two.vector, &mut two.a, 8).is_none()
-        && seen_value(&two.vector, &mut two.a, 3) == Some(8)
+        && push_numbers(&two.vector, &mut two.a, 2) == 2
+        && seen_value(&two.vector, &mut two.a, 3) == Some(1)
 }
 
 #[test]

@@ -5,7 +5,7 @@ pub returns-clause-laying : goal.returns-clause-laying
 returns-clause-laying c = permits_laying
 
 pub returns-clause-publishing : goal.returns-clause-publishing
-returns-clause-publishing c = λ terms id entry seat from first n v hand past. permits_publish terms id v hand.limit hand.base hand.filled hand.part entry seat from first n past
+returns-clause-publishing c = λ terms id entry seat from first n v hand. permits_publish terms id v hand.limit hand.base hand.filled hand.part entry seat from first n
 
 pub returns-clause-unseen : goal.returns-clause-unseen
-returns-clause-unseen c = λ terms id entry seat from first n v hand past. permits_unseen terms id v hand.limit hand.base hand.filled hand.part entry seat from first n past
+returns-clause-unseen c = λ terms id entry seat from first n v hand. permits_unseen terms id v hand.limit hand.base hand.filled hand.part entry seat from first n

@@ -1,4 +1,4 @@
-use Rattle.std.proofs.Common.{ℕ, ◌+◌, ◌≤◌, Some, refl, sym, ap, ◌∙◌, subst, arith}
+use Rattle.std.proofs.Common.{ℕ, ◌+◌, Some, refl, sym, ap, ◌∙◌, subst, arith}
 use Rattle.tie_core.specs.Tie.{Tie, IsTied, tie_further, tie_numbered}
 use Rattle.claim_core.specs.Gain.{IsLent}
 use Rattle.claim_core.specs.Hand.{HandView}
@@ -7,9 +7,7 @@ use Rattle.claim_core.specs.Ties.{Finds}
 use Rattle.cell_core.specs.Block.{block_len}
 use Rattle.cell_core.specs.Mould.{first_seat}
 use Rattle.cell_core.specs.Slot.{Names}
-use Rattle.seg_core.specs.Segment.{segment_start}
 use Rattle.grow_core.proofs.Fixing.{all_fixed, all_told, fixed_more, found_in, none_fixed, read_shows}
-use Rattle.grow_core.proofs.Places.{starts_le}
 use Rattle.grow_core.proofs.close.fix_cells.Goals as goal
 
 pub loop-i-init : goal.loop-i-init
@@ -18,8 +16,7 @@ loop-i-init g c = (none_fixed c.args.claims.now c.args.layout c.args.segment c.a
 pub offer_read-offer-requires-clause-found : goal.offer_read-offer-requires-clause-found
 offer_read-offer-requires-clause-found g c =
     let at = c.loop-i in let block = c.args.block.now in let f : ℕ = c.args.layout in let segment : ℕ = c.args.segment in
-    let laid : segment_start f c.args.laid ≤ segment_start f segment = starts_le f c.args.laid segment (omega arith) in
-    let tied = c.ties_laws.ensures.tied c.args.cells.now.tie (block_len block) (c.requires.by.tied laid) in
+    let tied = c.ties_laws.ensures.tied c.args.cells.now.tie (block_len block) c.requires.by in
     let first = c.ties_laws.ensures.row (tie_numbered c.args.cells.now.tie (first_seat block.cells)) (block_len block) 0 tied (omega (arith, c.len-n.ensures)) in
     subst (λ (h : HandView). Finds h.rows (c.first-from.result + at.i) c.further.result.tie.id) (sym at.invariant.1)
     (found_in c.args.claims.now f segment block at.i (c.first-from.result + at.i) c.further.result.tie.id c.requires.mark c.requires.row (subst IsTied (sym first) tt) (omega (arith, c.len-n.ensures))
@@ -28,8 +25,7 @@ offer_read-offer-requires-clause-found g c =
 pub fix_for-offer-requires-clause-tie : goal.fix_for-offer-requires-clause-tie
 fix_for-offer-requires-clause-tie g c =
     let at = c.loop-i in let block = c.args.block.now in let f : ℕ = c.args.layout in let segment : ℕ = c.args.segment in
-    let laid : segment_start f c.args.laid ≤ segment_start f segment = starts_le f c.args.laid segment (omega arith) in
-    let tied = c.ties_laws.ensures.tied c.args.cells.now.tie (block_len block) (c.requires.by.tied laid) in
+    let tied = c.ties_laws.ensures.tied c.args.cells.now.tie (block_len block) c.requires.by in
     let first = c.ties_laws.ensures.row (tie_numbered c.args.cells.now.tie (first_seat block.cells)) (block_len block) at.i tied (omega (arith, c.len-n.ensures)) in
     ap (λ (γ : Names). γ.tied) (at.invariant.0.rest at.i (omega arith)) ∙ first
     ∙ ap (λ (t : Tie). Some t) (sym (c.offer_read-offer.ensures.offer.0 ∙ c.further.ensures.tie ∙ ap (λ (t : Tie). tie_further t at.i) c.numbered-tag.ensures.tie))
@@ -46,9 +42,7 @@ loop-i-preserved g c =
     )
 
 pub returns-clause-fixed : goal.returns-clause-fixed
-returns-clause-fixed g c =
-    all_fixed c.args.claims.now c.args.layout c.args.laid c.args.segment c.args.block.now c.loop-i.block c.loop-i.i c.loop-i.invariant.0 (omega (arith, c.len-n.ensures))
-    (starts_le c.args.layout c.args.laid c.args.segment (omega arith))
+returns-clause-fixed g c = all_fixed c.args.claims.now c.args.layout c.args.segment c.args.block.now c.loop-i.block c.loop-i.i c.loop-i.invariant.0 (omega (arith, c.len-n.ensures))
 
 pub returns-clause-told : goal.returns-clause-told
 returns-clause-told g c = all_told c.args.claims.now c.args.layout c.args.segment c.args.block.now c.loop-i.block c.loop-i.i c.loop-i.invariant.0 (omega (arith, c.len-n.ensures))

@@ -5,7 +5,7 @@ use Rattle.grow_core.proofs.settle_cells.settle_cells.Goals as goal
 
 pub stretches-init : goal.stretches-init
 stretches-init g c =
-    (omega arith, settled_none c.args.block.now c.args.offset c.args.opened.now c.args.place c.args.row.now c.args.epoch.now, omega arith, omega arith, λ are. are)
+    (omega arith, settled_none c.args.block.now c.args.offset c.args.opened.now c.args.place c.args.row.now c.args.epoch.now, omega arith, omega arith)
 
 pub settle_stretch-counts-requires-clause-known : goal.settle_stretch-counts-requires-clause-known
 settle_stretch-counts-requires-clause-known g c i m less there =
@@ -21,5 +21,4 @@ stretches-preserved g c =
           next.new.block next.new.row next.result.settled next.ensures.settled,
       omega (arith, at.invariant.2, next.ensures.broken),
       omega (arith, at.invariant.3, next.ensures.few),
-      λ are. next.ensures.plain (at.invariant.4 are),
     )

@@ -23,7 +23,7 @@ returns-clause-settled g c =
     settled_more c.args.block.now c.args.block.now c.args.offset c.args.opened.now c.args.place c.args.row.now c.append.new.self c.args.epoch.now count
     (settled_found c.args.block.now c.args.offset c.args.opened.now c.args.place c.args.row.now c.append.new.self found.result.1 c.args.epoch.now count
     c.append.ensures found.ensures.row found.ensures.filled found.ensures.stages c.agree_all.ensures)
-    cell.new.block c.at-known.result cell.result c.push.new.self c.push.ensures c.at-known.ensures cell.ensures.kept cell.ensures.stage cell.ensures.member cell.ensures.name cell.ensures.broken cell.ensures.len cell.ensures.others
+    cell.new.block c.at-known.result cell.result c.push.new.self c.push.ensures c.at-known.ensures cell.ensures.kept cell.ensures.stage cell.ensures.staged cell.ensures.member cell.ensures.name cell.ensures.broken cell.ensures.len cell.ensures.others
 
 pub returns-clause-broken : goal.returns-clause-broken
 returns-clause-broken g c =

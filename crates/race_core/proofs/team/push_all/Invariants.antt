@@ -9,4 +9,4 @@ invariant-loop-value g l =
     × (l.hand.shares ≡ l.fn.hand.shares)
     × ((shares : ℕ) → IsTeam l.vector.word shares l.from l.from (team_of l.fn.hand l.fn.wins.items)
     → IsTeam l.vector.word shares l.from l.value (team_of l.hand l.wins.items))
-    × LogsMoreWins l.vector l.fn.hand l.hand l.fn.wins.items l.wins.items
+    × LogsMoreWins l.fn.hand l.hand l.fn.wins.items l.wins.items

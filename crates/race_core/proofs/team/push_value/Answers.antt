@@ -18,5 +18,5 @@ pub returns-in-Ok-push-clause-logs : goal.returns-in-Ok-push-clause-logs
 returns-in-Ok-push-clause-logs g c =
     let win : Win = record { worker = c.args.worker; place = c.place.result; value = c.get.result.now } in
     let here : c.in-Ok.placed.place ≡ c.place.result = search rules in
-    let push = subst (LogsPush c.args.vector.now c.args.hand.now c.push_back.new.hand) here c.in-Ok.ensures.logs in
-    one_win c.args.vector.now c.args.hand.now c.push_back.new.hand c.args.wins.now.items c.push.new.self.items win push c.in-Ok-push.ensures.items
+    let push = subst (LogsPush c.args.hand.now c.push_back.new.hand) here c.in-Ok.ensures.logs in
+    one_win c.args.hand.now c.push_back.new.hand c.args.wins.now.items c.push.new.self.items win push c.in-Ok-push.ensures.items

@@ -24,4 +24,4 @@ returns-clause-answer g c =
 
 pub returns-clause-logs : goal.returns-clause-logs
 returns-clause-logs g c =
-    all_wins c.args.vector.now c.args.hand.now c.push_all-pushed.new.hand _ _ c.begin_wins-wins.ensures.none c.in_ok-pushed.ensures.logs
+    all_wins c.args.hand.now c.push_all-pushed.new.hand _ _ c.begin_wins-wins.ensures.none c.in_ok-pushed.ensures.logs

@@ -11,11 +11,11 @@ ghost use Rattle.table_core.specs.Entry.{Agrees, length_of, name_of, tie_of, mou
 use crate::entry::loose::Loose;
 use crate::entry::steps::{Entry, EntrySight, Measured};
 use std::alloc::Global;
-use std::marker::Brand;
+use std::marker::{Brand, PhantomData};
 use std::ptr::null_mut;
 use std::sync::atomic::AtomicPtr;
 use std::sync::atomic::Ordering::SeqCst;
-use tie_core::{EntryBook, EntrySeat, Staged, Tag, Visit};
+use tie_core::{EntryBook, EntrySeat, PlacedSeat, Staged, Tag, Visit};
 
 // Says how the cells of a block with this many are tied, by numbers that begin at the first cell's seat.
 pub(crate) trait Moulded {
@@ -54,6 +54,28 @@ impl<B: Measured> Entry<B> {
     {
         let EntrySeat { marker: _ } = seat;
         Entry { word, alloc }
+    }
+
+    // An entry that is set to the block, which the sight knows. It is tied by the block's seat, and has the block's
+    // mould.
+    fn full_placed(
+        word: AtomicPtr<B>,
+        block: Loose<B, Global>,
+        seat: PlacedSeat,
+    ) -> (Entry<B>, EntrySight<B>)
+        requires { (atomic_ptr_value word ≡ block.at) × (seat.number ≡ B.seat block.value) }
+        ensures length { length_of result.0 ≡ B.measure block.value }
+        ensures tie { (tie_of result.0 ≡ Some seat.tie)
+            × (mould_at result.0 ≡ B.mould block.value) }
+        ensures of { result.1.of ≡ name_of result.0 }
+        ensures known { result.1.known ≡ Some block.value }
+    {
+        let PlacedSeat { marker: _ } = seat;
+        let Loose { at: _, alloc } = block;
+        let sight = EntrySight {
+            marker: PhantomData,
+        };
+        (Entry { word, alloc }, sight)
     }
 
     // The look at a tied entry: one load, in which the visit's update runs. The visit then tells what the load
@@ -124,6 +146,19 @@ impl<B: Measured> Entry<B> {
 }
 
 impl<B: Measured + Drop> Entry<B> {
+    // An entry that is set to the block, which the sight knows. It is tied by the block's seat.
+    pub(crate) fn filled_placed(block: Box<B>, seat: PlacedSeat) -> (Entry<B>, EntrySight<B>)
+        requires { seat.number ≡ B.seat block.value }
+        ensures length { length_of result.0 ≡ B.measure block.value }
+        ensures tie { (tie_of result.0 ≡ Some seat.tie)
+            × (mould_at result.0 ≡ B.mould block.value) }
+        ensures of { result.1.of ≡ name_of result.0 }
+        ensures known { result.1.known ≡ Some block.value }
+    {
+        let (at, block) = Entry::pointer(Loose::of(block));
+        Entry::full_placed(AtomicPtr::new(at), block, seat)
+    }
+
     // Sets a tied entry to the block, unless another came first. It gives the entry's block, and back the one that
     // came too late.
     pub(crate) fn set_for<'a, 'b, X, K: EntryBook<X>>(

@@ -10,14 +10,12 @@ returns-clause-own g c x last =
 
 pub returns-clause-looks : goal.returns-clause-looks
 returns-clause-looks g c =
-    subst (λ (w : CallerView _). (IsLastAt c.args.place w.last → ⊥) → IfOk c.copy_at.result (λ _. LogsValue w.vector c.args.place w.hand c.copy_at.new.hand))
+    subst (λ (w : CallerView _). (IsLastAt c.args.place w.last → ⊥) → IfOk c.copy_at.result (λ _. LogsValue c.args.place w.hand c.copy_at.new.hand))
     c.self.view_is
-    (subst (λ h. (IsLastAt c.args.place c.self.inside.last → ⊥) → IfOk c.copy_at.result (λ _. LogsValue h.vector c.args.place c.self.inside.hand c.copy_at.new.hand))
-    c.deref.ensures c.copy_at.ensures.looks)
+    c.copy_at.ensures.looks
 
 pub returns-clause-looks_refusal : goal.returns-clause-looks_refusal
 returns-clause-looks_refusal g c =
-    subst (λ (w : CallerView _). (IsLastAt c.args.place w.last → ⊥) → IfErr c.copy_at.result (LogsNoValue w.vector c.args.place w.hand c.copy_at.new.hand))
+    subst (λ (w : CallerView _). (IsLastAt c.args.place w.last → ⊥) → IfErr c.copy_at.result (LogsNoValue c.args.place w.hand c.copy_at.new.hand))
     c.self.view_is
-    (subst (λ h. (IsLastAt c.args.place c.self.inside.last → ⊥) → IfErr c.copy_at.result (LogsNoValue h.vector c.args.place c.self.inside.hand c.copy_at.new.hand))
-    c.deref.ensures c.copy_at.ensures.looks_refusal)
+    c.copy_at.ensures.looks_refusal

@@ -7,9 +7,8 @@ use Rattle.caller_core.proofs.caller.Caller.grow_source.Goals as goal
 
 pub returns-clause-logs : goal.returns-clause-logs
 returns-clause-logs g c =
-    subst (λ (r : Run). LogsGrowth c.args.self.now.vector AllFilled c.args.self.now.hand c.try_grow_source.new.hand r)
+    subst (λ (r : Run). LogsGrowth AllFilled c.args.self.now.hand c.try_grow_source.new.hand r)
     (run_is c.in_ok-grown.grown.run c.keep_last.result _ (sym c.keep_last.ensures.place) (c.in_ok-grown.ensures.won.n))
-    (subst (λ (w : CallerView _). LogsGrowth w.vector AllFilled w.hand c.try_grow_source.new.hand c.in_ok-grown.grown.run)
+    (subst (λ (w : CallerView _). LogsGrowth AllFilled w.hand c.try_grow_source.new.hand c.in_ok-grown.grown.run)
     c.self.view_is
-    (subst (λ h. LogsGrowth h.vector AllFilled c.self.inside.hand c.try_grow_source.new.hand c.in_ok-grown.grown.run)
-    c.deref.ensures c.in_ok-grown.ensures.logs))
+    c.in_ok-grown.ensures.logs)

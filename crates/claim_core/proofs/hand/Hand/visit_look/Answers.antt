@@ -19,11 +19,11 @@ visit-requires-clause-permits g c =
     let i = c.self.inside in
     let has = has_seat (floor_in i.floor.numbers) i.badge.table_id i.badge.views i.shares i.seen _ c.self.invariant c.self.view_is (is_here c.args.self.now c.word.invariant c.word.view_is c.requires.ours) in
     let there = c.requires.there in
-    let claimed = c.requires.claimed in (
+    let seen = c.requires.seen in (
       has.view,
       has.one,
       find_here c.requires.places.0 c.requires.places.1
-          (may_find _ _ _ _ _ _ (hand_seat has.view c.word.invariant c.word.view_is c.requires.ours has.is has.part) has.is _ _ _ _ there.0 there.1 claimed.0 claimed.1),
+          (may_find _ _ _ _ _ _ (hand_seat has.view c.word.invariant c.word.view_is c.requires.ours has.is has.part) has.is _ _ _ _ there.0 there.1 seen),
     )
 
 pub invariant_of-self : goal.invariant_of-self

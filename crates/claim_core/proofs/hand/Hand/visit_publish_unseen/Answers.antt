@@ -22,7 +22,7 @@ publish-requires-clause-permits g c =
       _,
       has.one,
       c.requires.block.1.1,
-      may_publish_unseen _ _ _ _ _ _ (hand_seat has.view c.word.invariant c.word.view_is c.requires.ours has.is has.part) has.is _ _ _ 0 _ _ c.requires.past,
+      may_publish_unseen _ _ _ _ _ _ (hand_seat has.view c.word.invariant c.word.view_is c.requires.ours has.is has.part) has.is _ _ _ 0 _ _,
     )
 
 pub invariant_of-self : goal.invariant_of-self

@@ -1,6 +1,6 @@
 use Rattle.claim_core.specs.Seat.{floor_in}
 use Rattle.claim_core.proofs.Badges.{has_seat}
-use Rattle.claim_core.proofs.Belongs.{is_here, same_table, hand_seat, entry_there}
+use Rattle.claim_core.proofs.Belongs.{is_here, base_here, same_table, hand_seat, entry_there}
 use Rattle.claim_core.proofs.MaySteps.{may_enter, enter_here}
 use Rattle.claim_core.proofs.GainsBack.{entered_kept, entered_ends}
 use Rattle.claim_core.proofs.word.Word.enter_at.Goals as goal
@@ -18,7 +18,8 @@ enter-requires-clause-permits g c =
       has.view,
       has.one,
       enter_here c.args.from c.requires.places
-          (may_enter _ _ _ _ _ _ (hand_seat has.view c.self.invariant c.self.view_is c.requires.ours has.is has.part) has.is _ _ c.requires.whole c.requires.unlaid),
+          (may_enter _ _ _ _ _ _ (hand_seat has.view c.self.invariant c.self.view_is c.requires.ours has.is has.part) has.is _ _ c.requires.whole c.requires.unlaid
+          (base_here c.args.hand.now c.requires.ours c.requires.past)),
     )
 
 pub invariant_of-hand : goal.invariant_of-hand

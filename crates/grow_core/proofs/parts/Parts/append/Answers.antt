@@ -7,10 +7,10 @@ use Rattle.cell_core.specs.Member.{MemberView}
 use Rattle.table_core.specs.Table.{KeyView, IsKeyOf}
 use Rattle.grow_core.specs.Keys.{KeyRow, key_at}
 use Rattle.grow_core.specs.Token.{place_in}
-use Rattle.grow_core.specs.Parts.{PartsView, AreBrokenIn, AreWhole, values_in, capacity_of, one_if_broken}
+use Rattle.grow_core.specs.Parts.{PartsView, AreBrokenIn, AreStaged, AreWhole, RestagesCell, member_stage, values_in, capacity_of, one_if_broken}
 use Rattle.grow_core.proofs.Broken.{few_in_all, one_at_most, row_more}
 use Rattle.grow_core.proofs.Places.{written_whole, broken_more, pushed_there, pushed_elsewhere}
-use Rattle.grow_core.proofs.PlainSegments.{plain_put}
+use Rattle.grow_core.proofs.Staged.{staged_written}
 use Rattle.grow_core.proofs.parts.Parts.append.Goals as goal
 
 pub invariant_of-self : goal.invariant_of-self
@@ -27,6 +27,9 @@ invariant_of-self g c =
     let pushed : c.push.new.self ≡ known ++ m ∷ [] = c.push.ensures in
     let counted : length (values_in known) ≡ len = length-map known (λ (u : MemberView _). u.value) ∙ whole.all in
     let below : len < c.self.inside.limit = subst (λ (n : ℕ). n < c.self.inside.limit) counted (subst (λ (v : PartsView _). length v.members < v.limit) (sym c.self.view_is) c.requires.below) in
+    let long = whole.long segment key small has in let near : offset < block_len key.block = omega (arith, long, inside) in
+    let same_layout : c.put_block.new.table.layout ≡ f = c.put_block.ensures.layout ∙ taken.ensures.layout in
+    let there : slice_get c.push.new.self (place_in f segment offset) ≡ Some m = ap (λ (xs : List (MemberView _)). slice_get xs (place_in f segment offset)) pushed ∙ (ap (slice_get (known ++ m ∷ [])) (at_len ∙ sym whole.all) ∙ pushed_there known m) in
     let room : len < segment_start f c.self.inside.count = subst (λ (n : ℕ). n < segment_start f c.self.inside.count) counted (subst (λ (v : PartsView _). length v.members < capacity_of v) (sym c.self.view_is) c.requires.room) in (
       subst (λ (r : KeyRow). AreWhole c.put_block.new.table.layout c.put_block.new.table.names r c.push.new.self (len + 1) c.self.inside.limit c.self.inside.count) (sym put.2) (written_whole f names c.put_block.new.table row known c.push.new.self segment offset len (len + 1) c.self.inside.limit c.self.inside.count key key' block whole (c.put_block.ensures.layout ∙ taken.ensures.layout) small taken.ensures.segment inside has others of
           (c.write-member.ensures.len ∙ ap block_len start) (subst (λ (b : BlockView). KeepsOtherCells b block offset) start c.write-member.ensures.others)
@@ -39,7 +42,12 @@ invariant_of-self g c =
       subst (AreBrokenIn c.self.inside.epoch) (sym pushed) (broken_more c.self.inside.epoch known m c.self.invariant.2 c.write-member.ensures.broken),
       (let more = row_more known c.push.new.self m pushed in let one = ap (λ (v : Option g.row.T.Denot). one_if_broken v) c.write-member.ensures.value in
           omega (arith, c.self.invariant.3, c.count_broken.ensures, more, one)),
-      plain_put c.self.inside.table taken.new.table c.put_block.new.table taken.result.0 c.self.inside.count taken.ensures.layout c.put_block.ensures.layout taken.ensures.bonds c.put_block.ensures.bonds c.put_block.ensures.plain c.self.invariant.4,
+      subst (λ (u : ℕ × KeyRow). AreStaged u.0 u.1 c.push.new.self c.self.inside.count) (λ i. (sym same_layout i, sym put.2 i))
+          (staged_written f row known c.push.new.self c.self.inside.count segment offset key key' block c.self.invariant.4 whole.long (omega (arith, whole.few, whole.layout.0)) taken.ensures.first (omega (arith, small, whole.rows)) near has of.of
+          (c.write-member.ensures.len ∙ ap block_len start) (subst (λ (b : BlockView). KeepsOtherCells b block offset) start c.write-member.ensures.others)
+          (subst (λ (b : BlockView). RestagesCell b block offset (member_stage (Some m))) start c.write-member.ensures.staged (member_stage (slice_get known (place_in f segment offset))) (c.self.invariant.4 segment offset key taken.ensures.first has near)
+          ∙ ap (λ (u : Option (MemberView _)). Some (member_stage u)) (sym there))
+          (λ q other. ap (λ (xs : List (MemberView _)). slice_get xs q) pushed ∙ pushed_elsewhere known m q (λ e. other (e ∙ whole.all ∙ sym at_len)))),
     )
 
 pub overflow_add-self : goal.overflow_add-self

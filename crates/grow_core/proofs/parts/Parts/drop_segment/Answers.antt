@@ -3,9 +3,10 @@ use Rattle.std.specs.Prelude.{None, slice_set}
 use Rattle.std.proofs.lemmas.List.{length-map}
 use Rattle.seg_core.specs.Segment.{segment_start}
 use Rattle.cell_core.specs.Member.{MemberView}
-use Rattle.grow_core.specs.Parts.{PartsView, AreWhole, IsSpare, values_in}
-use Rattle.grow_core.proofs.PlainSegments.{plain_kept}
+use Rattle.grow_core.specs.Keys.{KeyRow}
+use Rattle.grow_core.specs.Parts.{PartsView, AreStaged, AreWhole, IsSpare, values_in}
 use Rattle.grow_core.proofs.Places.{cut_whole}
+use Rattle.grow_core.proofs.Staged.{staged_less}
 use Rattle.grow_core.proofs.parts.Parts.drop_segment.Goals as goal
 
 pub invariant_of-self : goal.invariant_of-self
@@ -21,5 +22,6 @@ invariant_of-self g c =
       tt,
       c.self.invariant.2,
       c.self.invariant.3,
-      (λ k low. plain_kept inside.table c.give_up.new.self (inside.count - 1) inside.count c.give_up.ensures.layout c.give_up.ensures.bonds c.give_up.ensures.plain c.self.invariant.4 k (omega (arith, low, some))),
+      subst (λ (u : ℕ × KeyRow). AreStaged u.0 u.1 inside.row (inside.count - 1)) (λ i. (sym c.give_up.ensures.layout i, sym c.set.ensures.set i))
+          (staged_less inside.table.layout inside.keys inside.row inside.count (inside.count - 1) c.self.invariant.4 (omega arith)),
     )

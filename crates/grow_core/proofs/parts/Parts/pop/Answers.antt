@@ -1,16 +1,17 @@
 use Rattle.std.proofs.Common.{◌≡◌, ◌≢◌, ℕ, ◌+◌, ◌-◌, ◌<◌, List, [], ◌∷◌, ◌++◌, Option, length, length-append, map, sym, ap, ◌∙◌, subst, arith}
 use Rattle.std.proofs.lemmas.List.{map-append}
-use Rattle.std.specs.Prelude.{Some, slice_get, slice_index}
+use Rattle.std.specs.Prelude.{Some, None, slice_get, slice_index}
 use Rattle.seg_core.specs.Segment.{segment_end}
-use Rattle.cell_core.specs.Block.{BlockView, KeepsOtherCells, block_len}
+use Rattle.tie_core.specs.Tie.{Idle}
+use Rattle.cell_core.specs.Block.{BlockView, FixesTie, KeepsOtherCells, block_len}
 use Rattle.cell_core.specs.Member.{MemberView}
 use Rattle.table_core.specs.Table.{KeyView, IsKeyOf}
 use Rattle.grow_core.specs.Keys.{KeyRow, key_at}
 use Rattle.grow_core.specs.Token.{place_in}
-use Rattle.grow_core.specs.Parts.{PartsView, AreBrokenIn, AreWhole, one_if_broken}
+use Rattle.grow_core.specs.Parts.{PartsView, AreBrokenIn, AreStaged, AreWhole, member_stage, one_if_broken}
 use Rattle.grow_core.proofs.Broken.{popped_value, row_more}
 use Rattle.grow_core.proofs.Places.{written_whole, broken_at, broken_fewer, pushed_there, pushed_elsewhere, none_past}
-use Rattle.grow_core.proofs.PlainSegments.{plain_put}
+use Rattle.grow_core.proofs.Staged.{restaged, staged_written}
 use Rattle.grow_core.proofs.parts.Parts.pop.Goals as goal
 
 pub invariant_of-self : goal.invariant_of-self
@@ -27,6 +28,9 @@ invariant_of-self g c =
     let last = c.pop.ensures.0 in let popped : known ≡ known' ++ last ∷ [] = c.pop.ensures.1 in
     let fewer : length known' + 1 ≡ len = sym (length-append known' (last ∷ [])) ∙ ap length (sym popped) ∙ whole.all in
     let here : length known' ≡ place_in f segment offset = omega (arith, fewer, at_last) in
+    let long = whole.long segment key small has in let near : offset < block_len key.block = omega (arith, long, inside) in
+    let same_layout : c.put_block.new.table.layout ≡ f = c.put_block.ensures.layout ∙ taken.ensures.layout in
+    let gone : slice_get known' (place_in f segment offset) ≡ None = ap (slice_get known') (sym here) ∙ none_past known' in
     let within = whole.within in let inner = whole.inside in (
       subst (λ (r : KeyRow). AreWhole c.put_block.new.table.layout c.put_block.new.table.names r known' (len - 1) c.self.inside.limit c.self.inside.count) (sym put.2) (written_whole f names c.put_block.new.table row known known' segment offset len (len - 1) c.self.inside.limit c.self.inside.count key key' block whole (c.put_block.ensures.layout ∙ taken.ensures.layout) small taken.ensures.segment inside has others of
           (c.take_member-value.ensures.len ∙ ap block_len start) (subst (λ (b : BlockView). KeepsOtherCells b block offset) start c.take_member-value.ensures.others)
@@ -37,7 +41,12 @@ invariant_of-self g c =
       broken_fewer c.self.inside.epoch known' last (subst (AreBrokenIn c.self.inside.epoch) popped c.self.invariant.2),
       (let more = row_more known' known last popped in let one = popped_value known known' last c.at.result (len - 1) popped (omega (arith, fewer)) c.at.ensures in
           let same = ap (λ (v : Option g.row.T.Denot). one_if_broken v) (one ∙ sym c.take_member-value.ensures.value) in omega (arith, c.self.invariant.3, c.count_broken.ensures, more, same)),
-      plain_put c.self.inside.table taken.new.table c.put_block.new.table taken.result.0 c.self.inside.count taken.ensures.layout c.put_block.ensures.layout taken.ensures.bonds c.put_block.ensures.bonds c.put_block.ensures.plain c.self.invariant.4,
+      subst (λ (u : ℕ × KeyRow). AreStaged u.0 u.1 known' c.self.inside.count) (λ i. (sym same_layout i, sym put.2 i))
+          (staged_written f row known known' c.self.inside.count segment offset key key' block c.self.invariant.4 whole.long (omega (arith, whole.few, whole.layout.0)) taken.ensures.first (omega (arith, small, whole.rows)) near has of.of
+          (c.take_member-value.ensures.len ∙ ap block_len start) (subst (λ (b : BlockView). KeepsOtherCells b block offset) start c.take_member-value.ensures.others)
+          (restaged key.block block offset Idle (subst (λ (b : BlockView). FixesTie b block offset Idle) start c.take_member-value.ensures.fixed) (member_stage (slice_get known (place_in f segment offset))) (c.self.invariant.4 segment offset key taken.ensures.first has near)
+          ∙ ap (λ (u : Option (MemberView _)). Some (member_stage u)) (sym gone))
+          (λ q other. sym (pushed_elsewhere known' last q (λ e. other (e ∙ here))) ∙ ap (λ (xs : List (MemberView _)). slice_get xs q) (sym popped))),
     )
 
 pub take_member-value-requires-clause-epoch : goal.take_member-value-requires-clause-epoch

@@ -7,12 +7,12 @@ use Rattle.cell_core.specs.Member.{MemberView}
 use Rattle.table_core.specs.Table.{KeyView}
 use Rattle.grow_core.specs.Keys.{KeyRow}
 use Rattle.grow_core.specs.Token.{place_in}
-use Rattle.grow_core.specs.Parts.{PartsView, AreBrokenIn, AreWhole, values_in}
+use Rattle.grow_core.specs.Parts.{PartsView, AreBrokenIn, AreStaged, AreWhole, values_in}
 use Rattle.grow_core.specs.PopSegment.{IsUnbroken, PopsValues}
 use Rattle.grow_core.proofs.Broken.{row_append, unbroken_count}
 use Rattle.grow_core.proofs.Places.{cut_whole, value_at}
 use Rattle.grow_core.proofs.PopSegment.{broken_first, fewer_whole, last_segment, popped_length, unbroken_first}
-use Rattle.grow_core.proofs.PlainSegments.{plain_kept}
+use Rattle.grow_core.proofs.Staged.{staged_fewer}
 use Rattle.grow_core.proofs.parts.Parts.pop_segment.Goals as goal
 
 pub pop_values-requires-clause-members : goal.pop_values-requires-clause-members
@@ -56,7 +56,8 @@ invariant_of-self g c =
       broken_first inside.epoch known' popped.popped (subst (AreBrokenIn inside.epoch) popped.row c.self.invariant.2),
       (let none = unbroken_count (values_in known) (subst (λ (v : PartsView _). IsUnbroken v.members) (sym c.self.view_is) c.requires.unbroken) in
           let more = row_append known' popped.popped known popped.row in omega (arith, c.self.invariant.3, none, more)),
-      (λ k low. plain_kept inside.table taken.new.table segment inside.count taken.ensures.layout taken.ensures.bonds taken.ensures.plain c.self.invariant.4 k (omega (arith, low, one))),
+      subst (λ (u : ℕ × KeyRow). AreStaged u.0 u.1 known' segment) (λ i. (sym taken.ensures.layout i, sym c.set.ensures.set i))
+          (staged_fewer f row known known' popped.popped inside.count segment c.self.invariant.4 whole.long (omega (arith, whole.few, whole.layout.0)) (omega (arith, one)) popped.row (omega (arith, fewer, all, at_last, some, counted))),
     )
 
 pub returns-clause-unbroken : goal.returns-clause-unbroken

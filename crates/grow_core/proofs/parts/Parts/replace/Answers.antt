@@ -2,15 +2,16 @@ use Rattle.std.proofs.Common.{◌≡◌, ◌≢◌, ℕ, ◌<◌, List, Option, 
 use Rattle.std.proofs.lemmas.List.{length-map}
 use Rattle.std.specs.Prelude.{Some, slice_get, slice_set, slice_index}
 use Rattle.seg_core.specs.Segment.{segment_end}
-use Rattle.cell_core.specs.Block.{BlockView, IsMemberAt, KeepsOtherCells, block_len}
+use Rattle.tie_core.specs.Tie.{Idle}
+use Rattle.cell_core.specs.Block.{BlockView, FixesTie, IsMemberAt, KeepsOtherCells, block_len}
 use Rattle.cell_core.specs.Member.{MemberView}
 use Rattle.table_core.specs.Table.{KeyView, IsKeyOf}
 use Rattle.grow_core.specs.Keys.{KeyRow, key_at}
 use Rattle.grow_core.specs.Token.{place_in}
-use Rattle.grow_core.specs.Parts.{PartsView, AreBrokenIn, AreWhole, values_in, one_if_broken}
+use Rattle.grow_core.specs.Parts.{PartsView, AreBrokenIn, AreStaged, AreWhole, RestagesCell, member_stage, values_in, one_if_broken}
 use Rattle.grow_core.proofs.Broken.{counted_there, few_in_all, one_at_most, row_set}
 use Rattle.grow_core.proofs.Places.{written_whole, broken_at, broken_set, set_there, set_elsewhere, value_at, values_set}
-use Rattle.grow_core.proofs.PlainSegments.{plain_put}
+use Rattle.grow_core.proofs.Staged.{restaged, staged_written}
 use Rattle.grow_core.proofs.parts.Parts.replace.Goals as goal
 
 pub invariant_of-self : goal.invariant_of-self
@@ -29,6 +30,9 @@ invariant_of-self g c =
     let counted : length (values_in known) ≡ len = length-map known (λ (u : MemberView _). u.value) ∙ whole.all in
     let below : place < len = subst (λ (n : ℕ). place < n) counted (subst (λ (v : PartsView _). place < length v.members) (sym c.self.view_is) c.requires) in
     let near : place < length known = subst (λ (n : ℕ). place < n) (sym whole.all) below in
+    let long = whole.long segment key small has in let inner : offset < block_len key.block = omega (arith, long, inside) in
+    let same_layout : c.put_block.new.table.layout ≡ f = c.put_block.ensures.layout ∙ taken.ensures.layout in
+    let there : slice_get c.set.new.self (place_in f segment offset) ≡ Some m = ap (λ (xs : List (MemberView _)). slice_get xs (place_in f segment offset)) changed ∙ (ap (slice_get (slice_set known place m)) at_place ∙ set_there known m place near) in
     let lens : block_len block ≡ block_len key.block = c.write-member.ensures.len ∙ ap block_len between ∙ c.take_member-held.ensures.len ∙ ap block_len start in
     let cells : KeepsOtherCells key.block block offset = (λ q other. c.write-member.ensures.others q other ∙ ap (λ (b : BlockView). Rattle.cell_core.specs.Block.cell_at b q) between ∙ c.take_member-held.ensures.others q other ∙ ap (λ (b : BlockView). Rattle.cell_core.specs.Block.cell_at b q) start) in (
       subst (λ (r : KeyRow). AreWhole c.put_block.new.table.layout c.put_block.new.table.names r c.set.new.self len c.self.inside.limit c.self.inside.count) (sym put.2) (written_whole f names c.put_block.new.table row known c.set.new.self segment offset len len c.self.inside.limit c.self.inside.count key key' block whole (c.put_block.ensures.layout ∙ taken.ensures.layout) small taken.ensures.segment inside has others of lens cells
@@ -41,7 +45,12 @@ invariant_of-self g c =
       subst (AreBrokenIn c.self.inside.epoch) (sym changed) (broken_set c.self.inside.epoch known place m c.self.invariant.2 c.write-member.ensures.broken),
       (let set = row_set known c.set.new.self place c.at.result m changed c.at.ensures in let old = ap (λ (v : Option g.row.T.Denot). one_if_broken v) c.take_member-held.ensures.value in
           let new = ap (λ (v : Option g.row.T.Denot). one_if_broken v) c.write-member.ensures.value in omega (arith, c.self.invariant.3, c.count_broken.ensures, c.count_broken-2.ensures, set, old, new)),
-      plain_put c.self.inside.table taken.new.table c.put_block.new.table taken.result.0 c.self.inside.count taken.ensures.layout c.put_block.ensures.layout taken.ensures.bonds c.put_block.ensures.bonds c.put_block.ensures.plain c.self.invariant.4,
+      subst (λ (u : ℕ × KeyRow). AreStaged u.0 u.1 c.set.new.self c.self.inside.count) (λ i. (sym same_layout i, sym put.2 i))
+          (staged_written f row known c.set.new.self c.self.inside.count segment offset key key' block c.self.invariant.4 whole.long (omega (arith, whole.few, whole.layout.0)) taken.ensures.first (omega (arith, small, whole.rows)) inner has of.of lens cells
+          (subst (λ (b : BlockView). RestagesCell b block offset (member_stage (Some m))) between c.write-member.ensures.staged Idle
+          (restaged key.block c.take_member-held.new.self offset Idle (subst (λ (b : BlockView). FixesTie b c.take_member-held.new.self offset Idle) start c.take_member-held.ensures.fixed) (member_stage (slice_get known (place_in f segment offset))) (c.self.invariant.4 segment offset key taken.ensures.first has inner))
+          ∙ ap (λ (u : Option (MemberView _)). Some (member_stage u)) (sym there))
+          (λ q other. ap (λ (xs : List (MemberView _)). slice_get xs q) changed ∙ set_elsewhere known m place q (λ e. other (e ∙ sym at_place)))),
     )
 
 pub take_member-held-requires-clause-epoch : goal.take_member-held-requires-clause-epoch

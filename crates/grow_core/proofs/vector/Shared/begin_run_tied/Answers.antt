@@ -11,7 +11,7 @@ use Rattle.grow_core.proofs.vector.Shared.begin_run_tied.Goals as goal
 pub cell_tag-tag-requires : goal.cell_tag-tag-requires
 cell_tag-tag-requires g c =
     let cell = cell_here c.args.self.now c.args.segment.now c.requires.segment c.args.place c.requires.from (omega (arith, c.requires.within, c.requires.some)) in
-    (omega arith, (c.requires.laid, cell))
+    (omega arith, cell)
 
 pub offer_begin_run-offer-requires-clause-found : goal.offer_begin_run-offer-requires-clause-found
 offer_begin_run-offer-requires-clause-found g c =

@@ -7,12 +7,7 @@ break_rest-requires g c =
     let all = c.requires in
     (omega arith, (all.ours, (all.owned, ((λ place low high it. all.fresh place (omega (arith, low)) (omega (arith, high)) it), (all.within, (omega arith, all.callable))))))
 
-pub returns-in-Ok-clause-works : goal.returns-in-Ok-clause-works
-returns-in-Ok-clause-works g c =
-    let run = c.args.run in
-    works_within c.args.hand.now c.break_rest.new.hand (run.from + 0) (run.n - 0) run.from run.n (omega arith) (omega arith) c.break_rest.ensures.works
-
-pub returns-in-Err-clause-works : goal.returns-in-Err-clause-works
-returns-in-Err-clause-works g c =
+pub returns-clause-works : goal.returns-clause-works
+returns-clause-works g c =
     let run = c.args.run in
     works_within c.args.hand.now c.break_rest.new.hand (run.from + 0) (run.n - 0) run.from run.n (omega arith) (omega arith) c.break_rest.ensures.works

@@ -10,20 +10,20 @@ use Rattle.grow_core.proofs.Claims.{held_still}
 use Rattle.grow_core.specs.Steps.{AddsAt, AddsOn, AreFresh, WorksIn}
 use Rattle.grow_core.proofs.Breaking.{none_broken, more_broken}
 use Rattle.grow_core.proofs.Loops.{fresh_left, nothing_broken, place_broken}
-use Rattle.grow_core.proofs.Works.{place_still, segment_still, works_on, works_within}
+use Rattle.grow_core.proofs.Works.{place_still, segment_still}
 use Rattle.grow_core.proofs.vector.Shared.break_rest.Goals as goal
 
 pub loop-place-init : goal.loop-place-init
 loop-place-init g c =
     let run = c.args.run in let hand = c.args.hand.now in let from = run.from + c.args.first in
-    let first = nothing_broken c.args.self.now run hand from in let zero_is : 0 ≡ from - from = omega arith in (
+    let first = nothing_broken run hand from in let zero_is : 0 ≡ from - from = omega arith in (
       ([], none_broken c.args.self.now from, refl, omega arith),
       c.find_segment-segment.ensures.segment,
       omega arith,
       omega arith,
       c.find_segment-segment.ensures.row,
       subst (λ (k : ℕ). WorksIn hand hand from k) zero_is first.0,
-      subst (λ (k : ℕ). AddsOn c.args.self.now hand hand run from (λ index. break_steps index from k)) zero_is first.1,
+      subst (λ (k : ℕ). AddsOn hand hand run (λ index. break_steps index from k)) zero_is first.1,
       search of_calls,
     )
 
@@ -40,7 +40,7 @@ break_place-requires g c =
     let keeps = at.invariant.5.keeps in let law = c.seen_runs_have_places.ensures in
     let ours = keeps.own.of ∙ c.requires.ours in
     let owned = place_still old at.hand keeps at.place (c.requires.owned at.place (omega (arith, had.3), omega arith)) in
-    let rest = fresh_left v run old law at.hand at.hand from (at.place - from) at.place (omega (arith, had.3)) (run.from + run.n - at.place) (run.n - c.args.first)
+    let rest = fresh_left run old law at.hand at.hand from (at.place - from) at.place (omega (arith, had.3)) (run.from + run.n - at.place) (run.n - c.args.first)
     (omega (arith, had.3)) at.invariant.5 c.requires.fresh in
     let fresh : AreFresh at.hand at.place 1 = (λ place low high. rest place low (omega (arith, high))) in
     let is = sym c.hand.view_is in (
@@ -69,16 +69,16 @@ invariant_of-hand g c = held_still c.hand.inside.claims c.break_place.new.claims
 
 pub loop-place-preserved : goal.loop-place-preserved
 loop-place-preserved g c =
-    let at = c.loop-place in let had = at.invariant.0 in let t = c.in-Ok.spoilt in let run = c.args.run in let from = run.from + c.args.first in
+    let at = c.loop-place in let had = at.invariant.0 in let t = c.break_place.result in let run = c.args.run in let from = run.from + c.args.first in
     let after = c.break_place.new.claims in
     let works = subst (λ (h : HandView). WorksIn h after at.place 1) c.hand.view_is c.break_place.ensures.works in
-    let adds = subst (λ (h : HandView). AddsAt c.args.self.now h after at.place (λ index. break_event index at.place)) c.hand.view_is c.break_place.ensures.adds in
-    let more = place_broken c.args.self.now run c.args.hand.now c.seen_runs_have_places.ensures at.hand after from (at.place - from) at.place (omega (arith, had.3))
+    let adds = subst (λ (h : HandView). AddsAt h after at.place (λ index. break_event index at.place)) c.hand.view_is c.break_place.ensures.adds in
+    let more = place_broken run c.args.hand.now c.seen_runs_have_places.ensures at.hand after from (at.place - from) at.place (omega (arith, had.3))
     (omega arith) (omega arith) at.invariant.5 at.invariant.6 works adds in
     let one_more : at.place - from + 1 ≡ at.place + 1 - from = omega (arith, had.3) in (
       (
         had.0 ++ t ∷ [],
-        more_broken c.args.self.now from had.0 t had.1 c.in-Ok.ensures.token (omega (arith, c.in-Ok.ensures.here, had.3)),
+        more_broken c.args.self.now from had.0 t had.1 c.break_place.ensures.token (omega (arith, c.break_place.ensures.here, had.3)),
         FoldsTo-push (λ k token next. goal.K-step g k token tt next) c.args.keep.now had.0 at.keep t c.keep.new.self had.2 c.keep.ensures,
         omega (arith, length-append had.0 (t ∷ []), had.3),
       ),
@@ -87,20 +87,9 @@ loop-place-preserved g c =
       omega arith,
       segment_still at.hand after works.keeps (λ row it. subst (λ l. Contains l row) (sym works.rows) it) _ _ c.next_segment.ensures.row,
       subst (λ (k : ℕ). WorksIn c.args.hand.now after from k) one_more more.0,
-      subst (λ (k : ℕ). AddsOn c.args.self.now c.args.hand.now after run from (λ index. break_steps index from k)) one_more more.1,
+      subst (λ (k : ℕ). AddsOn c.args.hand.now after run (λ index. break_steps index from k)) one_more more.1,
       search of_calls,
     )
-
-pub returns-in-Err-clause-works : goal.returns-in-Err-clause-works
-returns-in-Err-clause-works g c =
-    let at = c.loop-place in let old = c.args.hand.now in let run = c.args.run in let from = run.from + c.args.first in let after = c.break_place.new.claims in
-    let works = subst (λ (h : HandView). WorksIn h after at.place 1) c.hand.view_is c.break_place.ensures.works in let m = at.place - from in
-    works_within old after from (m + 1) from (run.n - c.args.first) (omega arith) (omega (arith, at.invariant.0.3))
-    (works_on old at.hand from m at.place 1 (m + 1) (omega (arith, at.invariant.0.3)) refl after at.invariant.5 works)
-
-pub invariant_of-hand-in-loop-place : goal.invariant_of-hand-in-loop-place
-invariant_of-hand-in-loop-place g c =
-    held_still c.hand.inside.claims c.break_place.new.claims c.loop-place.place 1 c.hand.inside.keys c.break_place.ensures.works c.hand.invariant
 
 pub returns-clause-works : goal.returns-clause-works
 returns-clause-works g c =

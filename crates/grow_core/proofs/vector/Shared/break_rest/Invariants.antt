@@ -16,6 +16,6 @@ invariant-loop-place g l =
     × (l.place ≤ l.segment.end)
     × KnowsSegment l.hand l.segment
     × WorksIn l.fn.hand l.hand (l.fn.run.from + l.fn.first) (l.place - (l.fn.run.from + l.fn.first))
-    × AddsOn l.self l.fn.hand l.hand l.fn.run (l.fn.run.from + l.fn.first)
+    × AddsOn l.fn.hand l.hand l.fn.run
     (λ index. break_steps index (l.fn.run.from + l.fn.first) (l.place - (l.fn.run.from + l.fn.first)))
     × goal.K-IsAlwaysCallable g l.keep

@@ -6,4 +6,4 @@ returns-in-Ok-clause-logs g c = claimed_after _ _ _ c.loop-try.invariant.6 _ c.i
 
 pub returns-in-Err-clause-logs_refusal : goal.returns-in-Err-clause-logs_refusal
 returns-in-Err-clause-logs_refusal g c =
-    refusal_after _ _ _ c.loop-try.invariant.6 c.args.self.now c.args.n c.in-Err.refused c.in-Err.ensures.logs_refusal
+    refusal_after _ _ _ c.loop-try.invariant.6 c.args.n c.in-Err.refused c.in-Err.ensures.logs_refusal

@@ -37,7 +37,7 @@ pub returns-in_err-value-clause-logs_refusal : goal.returns-in_err-value-clause-
 returns-in_err-value-clause-logs_refusal g c =
     let p = err_from_is_err_and c.from_residual.result c.from_residual.ensures.1 in
     rw (p.1, p.2)
-    (refusal_after c.args.hand.now c.size_for-from.new.hand c.claim.new.hand c.size_for-from.ensures.goes_on c.args.self.now c.args.n c.in_err-value.field-0.0
+    (refusal_after c.args.hand.now c.size_for-from.new.hand c.claim.new.hand c.size_for-from.ensures.goes_on c.args.n c.in_err-value.field-0.0
     c.in_err-value.ensures.logs_refusal)
 
 -- a growth by no places claims no run

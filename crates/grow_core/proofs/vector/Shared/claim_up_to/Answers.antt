@@ -6,4 +6,4 @@ returns-clause-logs g c = reached_after _ _ _ c.size_up_to-from.ensures.goes_on 
 
 pub returns-clause-logs_refusal : goal.returns-clause-logs_refusal
 returns-clause-logs_refusal g c =
-    refusals_up_to_after _ _ _ c.size_up_to-from.ensures.goes_on c.args.self.now c.args.size c.raise.result c.raise.ensures.logs_refusal
+    refusals_up_to_after _ _ _ c.size_up_to-from.ensures.goes_on c.args.size c.raise.result c.raise.ensures.logs_refusal

@@ -14,7 +14,7 @@ invariant-loop-done g l =
     × (l.run.from + l.done ≤ l.segment.end)
     × KnowsSegment l.hand l.segment
     × WorksIn l.fn.hand l.hand l.run.from l.done
-    × AddsOn l.self l.fn.hand l.hand l.run l.run.from (λ index. fill_steps index l.run.from l.done)
+    × AddsOn l.fn.hand l.hand l.run (λ index. fill_steps index l.run.from l.done)
 
 abbrev pub decreases-loop-done : goal.decreases-loop-done
 decreases-loop-done g l = l.run.n - l.done

@@ -10,7 +10,7 @@ use Rattle.grow_core.specs.Logs.{fill_steps}
 use Rattle.grow_core.specs.Steps.{AddsAlong, AddsOn, AreFresh, WorksIn}
 use Rattle.grow_core.specs.Stretch.{IsStretchOf}
 use Rattle.grow_core.proofs.Loops.{all_taken, fresh_left, nothing_filled, owns_left, stretch_filled}
-use Rattle.grow_core.proofs.Works.{place_still, segment_still, works_within}
+use Rattle.grow_core.proofs.Works.{place_still, segment_still}
 use Rattle.grow_core.proofs.vector.Shared.fill_run.Goals as goal
 
 pub grown-requires : goal.grown-requires
@@ -19,7 +19,7 @@ grown-requires g c = (omega arith, (c.requires.within, ([], omega arith, c.no_pl
 pub loop-place-init : goal.loop-place-init
 loop-place-init g c =
     let made = c.into_iter-left.ensures in let items = ap length made.rest in let run = c.args.run in let hand = c.args.hand.now in
-    let first = nothing_filled c.args.self.now run hand in let zero_is : 0 ≡ run.from - run.from = omega arith in (
+    let first = nothing_filled run hand in let zero_is : 0 ≡ run.from - run.from = omega arith in (
       ([], c.no_places-filled.ensures c.args.run.from, omega arith, made.rest),
       omega (arith, items, made.len, c.args.values.ok),
       omega (arith, items, c.requires.values, c.args.values.ok),
@@ -28,13 +28,13 @@ loop-place-init g c =
       omega arith,
       c.find_segment-segment.ensures.row,
       subst (λ (k : ℕ). WorksIn hand hand run.from k) zero_is first.0,
-      subst (λ (k : ℕ). AddsOn c.args.self.now hand hand run run.from (λ index. fill_steps index run.from k)) zero_is first.1,
+      subst (λ (k : ℕ). AddsOn hand hand run (λ index. fill_steps index run.from k)) zero_is first.1,
     )
 
 pub know-filled-requires : goal.know-filled-requires
 know-filled-requires g c =
-    let at = c.loop-place in let had = at.invariant.0 in let took = c.in-Ok.ensures.filled in
-    let next = subst (λ p. IsStretchOf c.args.self.now p took.values c.in-Ok.stretch) had.2 took.is in
+    let at = c.loop-place in let had = at.invariant.0 in let took = c.fill_next-stretch.ensures.filled in
+    let next = subst (λ p. IsStretchOf c.args.self.now p took.values c.fill_next-stretch.result.0) had.2 took.is in
     (omega arith, (c.args.run.from, had.0, took.values, record { known = had.1; next = next }))
 
 -- the hand of this turn owns the place, and knows where it is
@@ -44,14 +44,14 @@ next_segment-requires g c =
     (omega arith, (keeps.own.of ∙ c.requires.ours, (place_still c.args.hand.now at.hand keeps _ (c.requires.owned _ (omega arith, omega arith)), (omega arith, (at.invariant.3, (at.invariant.6, (at.invariant.4, at.invariant.5)))))))
 
 -- and it has begun no place that is left
-pub fill_next-requires : goal.fill_next-requires
-fill_next-requires g c =
+pub fill_next-stretch-requires : goal.fill_next-stretch-requires
+fill_next-stretch-requires g c =
     let at = c.loop-place in let run = c.args.run in let v = c.args.self.now in let old = c.args.hand.now in
     let law = c.seen_runs_have_places.ensures in let here : run.from + (at.place - run.from) ≡ at.place = omega (arith, at.invariant.0) in
     let n = into_iter_len at.left in let items = at.invariant.1 in
     let ours = at.invariant.7.keeps.own.of ∙ c.requires.ours in
-    let owned = owns_left v run old law at.hand at.hand run.from (at.place - run.from) at.place here n at.invariant.7 c.requires.owned (omega arith) (omega (arith, at.invariant.2, items)) in
-    let fresh = fresh_left v run old law at.hand at.hand run.from (at.place - run.from) at.place here n run.n (omega (arith, at.invariant.2, items)) at.invariant.7 c.requires.fresh in
+    let owned = owns_left run old law at.hand at.hand run.from (at.place - run.from) at.place here n at.invariant.7 c.requires.owned (omega arith) (omega (arith, at.invariant.2, items)) in
+    let fresh = fresh_left run old law at.hand at.hand run.from (at.place - run.from) at.place here n run.n (omega (arith, at.invariant.2, items)) at.invariant.7 c.requires.fresh in
     let is = sym c.hand.view_is in (
       omega arith,
       (
@@ -74,19 +74,19 @@ fill_next-requires g c =
 
 -- what a stretch leaves of the hand
 pub invariant_of-hand : goal.invariant_of-hand
-invariant_of-hand g c = held_still c.hand.inside.claims c.fill_next.new.claims c.loop-place.place c.in-Ok.stretch.n c.hand.inside.keys c.in-Ok.ensures.works c.hand.invariant
+invariant_of-hand g c = held_still c.hand.inside.claims c.fill_next-stretch.new.claims c.loop-place.place c.fill_next-stretch.result.0.n c.hand.inside.keys c.fill_next-stretch.ensures.works c.hand.invariant
 
 pub loop-place-preserved : goal.loop-place-preserved
 loop-place-preserved g c =
     let at = c.loop-place in let v = c.args.self.now in let from = c.args.run.from in
-    let had = at.invariant.0 in let took = c.in-Ok.ensures.filled in
-    let rest = into_iter_items c.in-Ok.rest in
-    let next = subst (λ p. IsStretchOf v p took.values c.in-Ok.stretch) had.2 took.is in
+    let had = at.invariant.0 in let took = c.fill_next-stretch.ensures.filled in
+    let rest = into_iter_items c.fill_next-stretch.result.1 in
+    let next = subst (λ p. IsStretchOf v p took.values c.fill_next-stretch.result.0) had.2 took.is in
     let firsts = ap length took.first ∙ length-append took.values rest in
-    let after = c.fill_next.new.claims in let n = c.in-Ok.stretch.n in
-    let works = subst (λ (h : HandView). WorksIn h after at.place n) c.hand.view_is c.in-Ok.ensures.works in
-    let adds = subst (λ (h : HandView). AddsAlong v h after at.place n (λ index. fill_steps index at.place n)) c.hand.view_is c.in-Ok.ensures.adds in
-    let more = stretch_filled v c.args.run c.args.hand.now c.seen_runs_have_places.ensures at.hand after from (at.place - from) at.place (omega (arith, had.2)) n
+    let after = c.fill_next-stretch.new.claims in let n = c.fill_next-stretch.result.0.n in
+    let works = subst (λ (h : HandView). WorksIn h after at.place n) c.hand.view_is c.fill_next-stretch.ensures.works in
+    let adds = subst (λ (h : HandView). AddsAlong h after at.place n (λ index. fill_steps index at.place n)) c.hand.view_is c.fill_next-stretch.ensures.adds in
+    let more = stretch_filled c.args.run c.args.hand.now c.seen_runs_have_places.ensures at.hand after from (at.place - from) at.place (omega (arith, had.2)) n
     (at.place + n - from) (omega (arith, had.2)) (omega arith) (omega (arith, at.invariant.2, firsts, took.is.n)) at.invariant.7 at.invariant.8 works adds in (
       (
         had.0 ++ took.values,
@@ -98,18 +98,11 @@ loop-place-preserved g c =
       omega (arith, at.invariant.2, firsts, took.is.n),
       c.next_segment.ensures.segment,
       omega arith,
-      omega (arith, c.in-Ok.ensures.within),
+      omega (arith, c.fill_next-stretch.ensures.within),
       segment_still at.hand after works.keeps (λ row it. subst (λ l. Contains l row) (sym works.rows) it) _ _ c.next_segment.ensures.row,
       more.0,
       more.1,
     )
-
--- a place that was taken leaves the hand as it was
-pub returns-in-Err-clause-works : goal.returns-in-Err-clause-works
-returns-in-Err-clause-works g c =
-    let at = c.loop-place in let old = c.args.hand.now in let run = c.args.run in let same = c.in-Err.ensures.untouched ∙ c.hand.view_is in
-    works_within old c.fill_next.new.claims run.from (at.place - run.from) run.from run.n (omega arith) (omega (arith, at.invariant.2))
-    (subst (λ (h : HandView). WorksIn old h run.from (at.place - run.from)) (sym same) at.invariant.7)
 
 pub returns-clause-values : goal.returns-clause-values
 returns-clause-values g c =

@@ -18,7 +18,7 @@ invariant-loop-place g l =
     × (l.place ≤ l.segment.end)
     × KnowsSegment l.hand l.segment
     × WorksIn l.fn.hand l.hand l.run.from (l.place - l.run.from)
-    × AddsOn l.self l.fn.hand l.hand l.run l.run.from (λ index. fill_steps index l.run.from (l.place - l.run.from))
+    × AddsOn l.fn.hand l.hand l.run (λ index. fill_steps index l.run.from (l.place - l.run.from))
 
 abbrev pub decreases-loop-place : goal.decreases-loop-place
 decreases-loop-place g l = l.run.from + l.run.n - l.place

@@ -1,5 +1,6 @@
 use Rattle.std.proofs.Common.{◌≡◌, ℕ, ◌+◌, ◌-◌, ◌≤◌, List, sym, subst, ap, ◌∙◌, arith}
 use Rattle.std.specs.Prelude.{length}
+use Rattle.claim_core.specs.Word.{WordView}
 use Rattle.cell_core.specs.Block.{BlockView, block_len}
 use Rattle.cell_core.specs.Run.{IsRunPenAt, cells_from, members_of}
 use Rattle.cell_core.specs.Slot.{Names}
@@ -8,7 +9,7 @@ use Rattle.grow_core.specs.Token.{place_in}
 use Rattle.grow_core.specs.Vector.{layout_of}
 use Rattle.grow_core.proofs.Stretches.{cells_length, run_stretch}
 use Rattle.grow_core.proofs.Works.{along_after, row_kept, size_of_keeps, works_twice}
-use Rattle.grow_core.proofs.TiedCells.{owned_below}
+use Rattle.grow_core.proofs.TiedCells.{owned_within}
 use Rattle.grow_core.proofs.vector.Shared.fill_run_tied.Goals as goal
 
 pub write_values-pen-requires-clause-cells : goal.write_values-pen-requires-clause-cells
@@ -20,12 +21,13 @@ write_values-pen-requires-clause-cells g c =
 pub publish_tied-row-requires : goal.publish_tied-row-requires
 publish_tied-row-requires g c =
     let works = c.begin_run_tied-pen.ensures.works in let key = c.args.segment.now.key in let old = c.args.claims.now in let mid = c.begin_run_tied-pen.new.claims in
-    let below = owned_below c.seen_runs_are_within.ensures old c.args.place c.args.n c.requires.some c.requires.owned in
+    let owned = owned_within c.seen_runs_are_within.ensures old c.args.place c.args.n c.requires.some c.requires.owned in
+    let base = subst (λ (w : WordView). w.base ≤ c.args.place) (sym works.keeps.own.of) owned.0 in
     let same = size_of_keeps old mid works.keeps in
     let cells = c.args.segment.now.block.now.cells in
     let run = c.write_values-pen.ensures.run in let pen = c.begin_run_tied-pen.ensures.pen in
     let at = run.0 ∙ pen.at in
-    (omega arith, (works.keeps.own.of ∙ c.requires.ours, (c.requires.laid, (c.requires.segment, (row_kept old mid works.keeps.own.of works.rows key.segment key.block c.requires.row, (c.requires.from, (c.requires.within, (c.requires.some, (omega (arith, below, same), ((at, (run.1 ∙ pen.cells) ∙ ap (λ (i : ℕ). cells_from c.args.n i cells) (sym at)), c.write_values-pen.ensures.written.0))))))))))
+    (omega arith, (works.keeps.own.of ∙ c.requires.ours, (c.requires.segment, (row_kept old mid works.keeps.own.of works.rows key.segment key.block c.requires.row, (c.requires.from, (c.requires.within, (c.requires.some, ((base, omega (arith, owned.1, same)), ((at, (run.1 ∙ pen.cells) ∙ ap (λ (i : ℕ). cells_from c.args.n i cells) (sym at)), c.write_values-pen.ensures.written.0)))))))))
 
 pub returns-clause-filled : goal.returns-clause-filled
 returns-clause-filled g c =
@@ -53,5 +55,5 @@ returns-clause-works g c =
 pub returns-clause-adds : goal.returns-clause-adds
 returns-clause-adds g c =
     let works = c.begin_run_tied-pen.ensures.works in
-    along_after c.args.self.now c.args.claims.now c.begin_run_tied-pen.new.claims c.publish_tied-row.new.claims c.args.place c.args.n
+    along_after c.args.claims.now c.begin_run_tied-pen.new.claims c.publish_tied-row.new.claims c.args.place c.args.n
     (λ index. fill_steps index c.args.place c.args.n) works.keeps works.more c.publish_tied-row.ensures.adds

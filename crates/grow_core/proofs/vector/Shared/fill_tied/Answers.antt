@@ -36,7 +36,7 @@ returns-clause-works g c =
     let told = ap (λ about. about.told) same ∙ c.offer_fill-offer.ensures.offer.3 in
     let gained = subst (λ (m : Option Made). GainsBy (fill_gains c.args.place offer.about.view) m mid new) c.fill_for-placed.ensures.made
     (subst (λ (p : ℕ). GainsBy (fill_gains p offer.about.view) offer.made mid new) told (c.take_back.ensures.gained mid lent)) in
-    let done = filled_at c.args.place c.runs_are_apart.ensures c.args.self.now mid.of.floor offer.about.table_id offer.about.view mid new lent.seat gained in
+    let done = filled_at c.args.place c.runs_are_apart.ensures mid.of.floor offer.about.table_id offer.about.view mid new lent.seat gained in
     works_twice c.args.claims.now mid new c.args.place 1 c.begin_tied-pen.ensures.works done.0
 
 pub returns-clause-adds : goal.returns-clause-adds
@@ -47,5 +47,5 @@ returns-clause-adds g c =
     let told = ap (λ about. about.told) same ∙ c.offer_fill-offer.ensures.offer.3 in
     let gained = subst (λ (m : Option Made). GainsBy (fill_gains c.args.place offer.about.view) m mid new) c.fill_for-placed.ensures.made
     (subst (λ (p : ℕ). GainsBy (fill_gains p offer.about.view) offer.made mid new) told (c.take_back.ensures.gained mid lent)) in
-    let done = filled_at c.args.place c.runs_are_apart.ensures c.args.self.now mid.of.floor offer.about.table_id offer.about.view mid new lent.seat gained in
-    at_after c.args.self.now c.args.claims.now mid new c.args.place _ c.begin_tied-pen.ensures.works done.1
+    let done = filled_at c.args.place c.runs_are_apart.ensures mid.of.floor offer.about.table_id offer.about.view mid new lent.seat gained in
+    at_after c.args.claims.now mid new c.args.place _ c.begin_tied-pen.ensures.works done.1

@@ -1,5 +1,5 @@
 use Rattle.std.proofs.Common.{◌≡◌}
-use Rattle.grow_core.specs.Closing.{AreKnownFrom}
+use Rattle.grow_core.specs.Closing.{AreKnown}
 use Rattle.grow_core.specs.Steps.{FindsMore}
 use Rattle.grow_core.proofs.Settled.{AreFirst}
 use Rattle.grow_core.proofs.vector.Shared.first_keys.Given as goal
@@ -7,6 +7,6 @@ use Rattle.grow_core.proofs.vector.Shared.first_keys.Given as goal
 abbrev pub invariant-loop-segment : goal.invariant-loop-segment
 invariant-loop-segment g l =
     AreFirst l.self.segments.layout l.self.segments.names l.opened l.keys l.segment
-    × AreKnownFrom 0 l.self.segments l.self.laid l.hand l.keys
+    × AreKnown l.self.segments l.hand l.keys
     × FindsMore l.fn.hand l.hand
     × (l.hand.log ≡ l.fn.hand.log)

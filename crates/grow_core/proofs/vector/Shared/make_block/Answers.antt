@@ -7,17 +7,16 @@ use Rattle.cell_core.specs.Mould.{first_seat, last_seat, mould_of}
 use Rattle.cell_core.specs.Slot.{AreTied}
 use Rattle.table_core.specs.Table.{IsLengthOf, IsTiedBlockOf, entry_mould}
 use Rattle.grow_core.specs.Vector.{VectorView, layout_of}
-use Rattle.grow_core.proofs.Entries.{laid_from, rises, tagged}
+use Rattle.grow_core.proofs.Entries.{rises, tagged}
 use Rattle.grow_core.proofs.vector.Shared.make_block.Goals as goal
 
 pub returns-clause-block : goal.returns-clause-block
 returns-clause-block g c =
-    let segments = c.self.inside.table in let f : ℕ = segments.layout in let segment : ℕ = c.args.segment in let count : ℕ = c.self.inside.count in let n : ℕ = c.len-n.result in
+    let segments = c.self.inside.table in let f : ℕ = segments.layout in let segment : ℕ = c.args.segment in let n : ℕ = c.len-n.result in
     let tie = c.lay-seats.result.1.tie in let block = c.in_ok-block.block in
     let tied : AreTied (row_of tie n) block.cells = subst (λ ties. AreTied ties block.cells) c.lay-seats.ensures.seats.0 c.in_ok-block.ensures.ties in
-    let after : count ≤ segment = laid_from f count segment (subst (λ (v : VectorView g.row.T.Denot). v.laid ≤ segment_start (layout_of v) segment) (sym c.self.view_is) c.requires.laid) in
-    let within = subst (λ (v : VectorView g.row.T.Denot). segment < segment_count (layout_of v)) (sym c.self.view_is) c.requires.within in
-    let at = tagged c.self.inside.word segments c.self.inside.cells.tie c.self.inside.tags count segment c.self.invariant.tied after within in
+    let within = subst (λ (v : VectorView g.row.T.Denot). segment < segment_count (layout_of v)) (sym c.self.view_is) c.requires in
+    let at = tagged c.self.inside.word segments c.self.inside.cells.tie c.self.inside.tags segment c.self.invariant.tied within in
     let long : IsLengthOf f segment n = subst (λ (k : ℕ). IsLengthOf k segment n) c.layout.ensures.value c.len-n.ensures in
     let alike = c.agrees.ensures c.self.inside.word.table c.self.inside.word.floor 0 c.lay-seats.ensures.tied c.self.invariant.tied.cells_of in
     let mould : mould_of block.cells ≡ entry_mould segments segment = c.ties_laws.ensures.mould tie n tied ∙ (ap (λ (t : Tie). row_of t n) alike ∙ sym (at.1.by.mould n long)) in

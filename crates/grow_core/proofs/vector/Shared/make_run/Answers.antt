@@ -1,19 +1,15 @@
-use Rattle.std.proofs.Common.{of_calls, IfOk, ℕ, ◌≡◌, ◌<◌, ◌≤◌, ◌+◌, ◌-◌, ◌++◌, ◌∷◌, [], Ok, refl, length, length-append, subst, sym, ◌∙◌, arith}
+use Rattle.std.proofs.Common.{of_calls, ℕ, ◌≡◌, ◌+◌, ◌-◌, ◌++◌, ◌∷◌, [], Ok, refl, length, length-append, subst, sym, ◌∙◌, arith}
 use Rattle.std.specs.List.{Contains}
-use Rattle.grow_core.specs.Begun.{AreBegun}
 use Rattle.grow_core.specs.Stretch.{IsStretchOf}
 use Rattle.grow_core.proofs.Made.{made_push, stops_at, left_by_stop}
-use Rattle.grow_core.proofs.BegunPlaces.{unwritten, begun_few, begun_low, begun_stays}
 use Rattle.grow_core.proofs.Loops.{fresh_left, nothing_filled, place_filled, stop_leaves}
-use Rattle.grow_core.proofs.Places.{opened_ends}
-use Rattle.grow_core.proofs.Works.{place_still, segment_still, works_on, works_within}
+use Rattle.grow_core.proofs.Works.{place_still, segment_still, works_on}
 use Rattle.claim_core.specs.Hand.{HandView, OwnsPlace}
 use Rattle.claim_core.specs.History.{fill_event}
 use Rattle.grow_core.specs.Segment.{KnowsSegment}
 use Rattle.grow_core.specs.Steps.{AddsAt, AreFresh, WorksIn}
-use Rattle.grow_core.specs.Vector.{VectorView, IsHandOf}
+use Rattle.grow_core.specs.Vector.{IsHandOf}
 use Rattle.grow_core.proofs.Claims.{held_still}
-use Rattle.seg_core.specs.Segment.{segment_start}
 use Rattle.grow_core.proofs.vector.Shared.make_run.Goals as goal
 
 pub grown-requires : goal.grown-requires
@@ -31,16 +27,15 @@ next_segment-requires g c =
     let at = c.loop-i in let keeps = at.invariant.5.keeps in
     (omega arith, (keeps.own.of ∙ c.requires.ours, (place_still c.args.hand.now at.hand keeps _ (c.requires.owned _ (omega arith, omega arith)), (omega arith, (at.invariant.1, (at.invariant.4, (at.invariant.2, at.invariant.3)))))))
 
--- and it has not begun it; what is begun of a segment is begun still, since another segment follows only where it ends
-pub fill_begun-put-requires : goal.fill_begun-put-requires
-fill_begun-put-requires g c =
+-- and it has not begun it
+pub fill-placed-requires : goal.fill-placed-requires
+fill-placed-requires g c =
     let at = c.loop-i in let run = c.args.run in let v = c.args.self.now in let old = c.args.hand.now in let place = run.from + at.i in
     let keeps = at.invariant.5.keeps in let law = c.seen_runs_have_places.ensures in
     let ours = keeps.own.of ∙ c.requires.ours in
     let owned = place_still old at.hand keeps place (c.requires.owned place (omega arith, omega arith)) in
-    let rest = fresh_left v run old law at.hand at.hand run.from at.i place refl (run.n - at.i) run.n (omega arith) at.invariant.5 c.requires.fresh in
+    let rest = fresh_left run old law at.hand at.hand run.from at.i place refl (run.n - at.i) run.n (omega arith) at.invariant.5 c.requires.fresh in
     let fresh : AreFresh at.hand place 1 = (λ p low high. rest p low (omega (arith, high))) in
-    let begun = begun_stays v.laid at.segment c.next_segment.new.segment place (run.n - at.i) at.begun at.invariant.7 c.next_segment.ensures.same in
     let is = sym c.hand.view_is in (
       omega arith,
       (
@@ -53,7 +48,7 @@ fill_begun-put-requires g c =
               c.next_segment.ensures.segment,
               (
                 subst (λ (h : HandView). KnowsSegment h c.next_segment.new.segment) is c.next_segment.ensures.row,
-                (c.next_segment.ensures.from, (c.next_segment.ensures.before, (omega arith, begun))),
+                (c.next_segment.ensures.from, c.next_segment.ensures.before),
               ),
             ),
           ),
@@ -64,7 +59,7 @@ fill_begun-put-requires g c =
 -- what a fill leaves of the hand
 pub invariant_of-hand : goal.invariant_of-hand
 invariant_of-hand g c =
-    held_still c.hand.inside.claims c.fill_begun-put.new.claims (c.args.run.from + c.loop-i.i) 1 c.hand.inside.keys c.fill_begun-put.ensures.works c.hand.invariant
+    held_still c.hand.inside.claims c.fill-placed.new.claims (c.args.run.from + c.loop-i.i) 1 c.hand.inside.keys c.fill-placed.ensures.works c.hand.invariant
 
 -- a construction that was refused: the places before it are filled, and the others broken
 pub returns-in-Err-clause-works : goal.returns-in-Err-clause-works
@@ -75,73 +70,39 @@ returns-in-Err-clause-works g c =
 pub returns-in-Err-clause-leaves : goal.returns-in-Err-clause-leaves
 returns-in-Err-clause-leaves g c =
     let at = c.loop-i in
-    stop_leaves c.args.self.now c.args.run c.args.hand.now at.hand c.stop.new.hand at.i c.stop.result (omega arith) at.invariant.5.keeps at.invariant.6
-    c.stop.ensures.stopped c.stop.ensures.made c.stop.ensures.adds c.stop.ensures.opened
+    stop_leaves c.args.self.now c.args.run c.args.hand.now at.hand c.stop.new.hand at.i c.stop.result at.invariant.5.keeps at.invariant.6
+    c.stop.ensures.stopped c.stop.ensures.made c.stop.ensures.adds
 
 pub stop-requires : goal.stop-requires
 stop-requires g c =
-    let at = c.loop-i in let run = c.args.run in let begun = at.invariant.7 in let laid : ℕ = c.args.self.now.laid in let keeps = at.invariant.5.keeps in let had = at.invariant.0 in let s = at.invariant.1 in
-    let f : ℕ = c.args.self.now.segments.layout in
-    let laid_is : laid ≡ segment_start f c.self.inside.count = subst (λ (v : VectorView _). v.laid ≡ segment_start v.segments.layout c.self.inside.count) c.self.view_is refl in
-    let ends : at.segment.from < laid → at.segment.end ≤ laid =
-    (λ low. let e = opened_ends f at.segment.key.segment c.self.inside.count laid laid_is (omega (arith, low, s.first)) in omega (arith, e, s.last)) in
-    let few = begun_few laid at.segment (run.from + at.i) (run.n - at.i) at.begun begun in (
-      omega arith,
-      (
-        keeps.own.of ∙ c.requires.ours,
-        (
-          λ place it. place_still c.args.hand.now at.hand keeps place (c.requires.owned place it),
-          (
-            fresh_left c.args.self.now run c.args.hand.now c.seen_runs_have_places.ensures at.hand at.hand run.from at.i (run.from + at.i) refl
-                (run.n - at.i) run.n (omega arith) at.invariant.5 c.requires.fresh,
-            (
-              c.requires.within,
-              (
-                (had.0, had.2, had.1),
-                (
-                  omega arith,
-                  (
-                    unwritten laid at.segment (run.from + at.i) (run.n - at.i) at.begun begun,
-                    (omega (arith, few), begun_low laid at.segment (run.from + at.i) (run.n - at.i) at.begun begun ends),
-                  ),
-                ),
-              ),
-            ),
-          ),
-        ),
-      ),
-    )
+    let at = c.loop-i in let run = c.args.run in let keeps = at.invariant.5.keeps in let had = at.invariant.0 in
+    let fresh = fresh_left run c.args.hand.now c.seen_runs_have_places.ensures at.hand at.hand run.from at.i (run.from + at.i) refl (run.n - at.i) run.n
+    (omega arith) at.invariant.5 c.requires.fresh in
+    (omega arith, (keeps.own.of ∙ c.requires.ours, ((λ place it. place_still c.args.hand.now at.hand keeps place (c.requires.owned place it)), (fresh, (c.requires.within, ((had.0, had.2, had.1), omega arith))))))
 
 pub loop-i-init : goal.loop-i-init
 loop-i-init g c =
-    let found = c.find_segment-segment.ensures in let first = nothing_filled c.args.self.now c.args.run c.args.hand.now in
-    (([], c.no_places-filled.ensures c.args.run.from, refl, refl), found.segment, omega (arith, found.from), omega (arith, found.before), found.row, first.0, first.1, tt, search of_calls)
+    let found = c.find_segment-segment.ensures in let first = nothing_filled c.args.run c.args.hand.now in
+    (([], c.no_places-filled.ensures c.args.run.from, refl, refl), found.segment, omega (arith, found.from), omega (arith, found.before), found.row, first.0, first.1, search of_calls)
 
 pub know-filled-requires : goal.know-filled-requires
 know-filled-requires g c =
-    let at = c.loop-i in let had = at.invariant.0 in
-    let token = c.in-Ok-put.placed in let v = c.args.self.now in let run = c.args.run in let put = c.fill_begun-put.ensures in
-    let here : token.place ≡ run.from + at.i = subst (λ r. IfOk r (λ placed. placed.place ≡ run.from + at.i)) c.in-Ok-put.is put.here in
-    let there : token.place ≡ run.from + length had.0 = omega (arith, here, had.2) in
+    let at = c.loop-i in let had = at.invariant.0 in let token = c.fill-placed.result in let v = c.args.self.now in let run = c.args.run in
+    let there : token.place ≡ run.from + length had.0 = omega (arith, c.fill-placed.ensures.here, had.2) in
     let next = subst (λ (p : ℕ). IsStretchOf v p (token.value ∷ []) c.stretch_of.result) there c.stretch_of.ensures in
     (omega arith, (run.from, had.0, token.value ∷ [], record { known = had.1; next = next }))
 
 pub loop-i-preserved : goal.loop-i-preserved
 loop-i-preserved g c =
-    let at = c.loop-i in let had = at.invariant.0 in
-    let token = c.in-Ok-put.placed in let v = c.args.self.now in let run = c.args.run in let is = c.in-Ok-put.is in let put = c.fill_begun-put.ensures in
-    let here : token.place ≡ run.from + at.i = subst (λ r. IfOk r (λ placed. placed.place ≡ run.from + at.i)) is put.here in
-    let value : token.value ≡ c.in-Ok.value = subst (λ r. IfOk r (λ placed. placed.value ≡ c.in-Ok.value)) is put.value in
-    let there : token.place ≡ run.from + length had.0 = omega (arith, here, had.2) in
+    let at = c.loop-i in let had = at.invariant.0 in let token = c.fill-placed.result in let v = c.args.self.now in let run = c.args.run in
+    let put = c.fill-placed.ensures in let there : token.place ≡ run.from + length had.0 = omega (arith, put.here, had.2) in
     let next = subst (λ (p : ℕ). IsStretchOf v p (token.value ∷ []) c.stretch_of.result) there c.stretch_of.ensures in
-    let call = subst (λ x. goal.F-step g at.make at.i (Ok x) c.make.new.self) (sym value) (subst (λ r. goal.F-step g at.make at.i r c.make.new.self) c.in-Ok.is c.make.ensures) in
-    let segment = c.next_segment.new.segment in let others = c.fill_begun-put.result.1 in let laid : ℕ = c.args.self.now.laid in
-    let after = c.fill_begun-put.new.claims in let place = run.from + at.i in
+    let call = subst (λ x. goal.F-step g at.make at.i (Ok x) c.make.new.self) (sym put.value) (subst (λ r. goal.F-step g at.make at.i r c.make.new.self) c.in-Ok.is c.make.ensures) in
+    let after = c.fill-placed.new.claims in let place = run.from + at.i in
     let works = subst (λ (h : HandView). WorksIn h after place 1) c.hand.view_is put.works in
-    let adds = subst (λ (h : HandView). AddsAt v h after place (λ index. fill_event index place)) c.hand.view_is put.adds in
-    let more = place_filled v run c.args.hand.now c.seen_runs_have_places.ensures at.hand after run.from at.i (run.from + at.i) refl (omega arith) (omega arith)
-    at.invariant.5 at.invariant.6 works adds in
-    let near : run.from + at.i + 1 ≡ run.from + (at.i + 1) = omega arith in let rest : run.n - at.i - 1 ≡ run.n - (at.i + 1) = omega arith in (
+    let adds = subst (λ (h : HandView). AddsAt h after place (λ index. fill_event index place)) c.hand.view_is put.adds in
+    let more = place_filled run c.args.hand.now c.seen_runs_have_places.ensures at.hand after run.from at.i (run.from + at.i) refl (omega arith) (omega arith)
+    at.invariant.5 at.invariant.6 works adds in (
       (
         had.0 ++ token.value ∷ [],
         c.know-filled.ensures run.from had.0 (token.value ∷ []) (record { known = had.1; next = next }),
@@ -154,20 +115,8 @@ loop-i-preserved g c =
       segment_still at.hand after works.keeps (λ row it. subst (λ l. Contains l row) (sym works.rows) it) _ _ c.next_segment.ensures.row,
       more.0,
       more.1,
-      subst (λ (k : ℕ). AreBegun laid segment k (run.n - (at.i + 1)) others) near (subst (λ (m : ℕ). AreBegun laid segment (run.from + at.i + 1) m others) rest put.begun),
       search of_calls,
     )
-
-pub invariant_of-hand-in-loop-i : goal.invariant_of-hand-in-loop-i
-invariant_of-hand-in-loop-i g c =
-    held_still c.hand.inside.claims c.fill_begun-put.new.claims (c.args.run.from + c.loop-i.i) 1 c.hand.inside.keys c.fill_begun-put.ensures.works c.hand.invariant
-
-pub returns-in-Err-put-clause-works : goal.returns-in-Err-put-clause-works
-returns-in-Err-put-clause-works g c =
-    let at = c.loop-i in let old = c.args.hand.now in let run = c.args.run in let place = run.from + at.i in let after = c.fill_begun-put.new.claims in
-    let works = subst (λ (h : HandView). WorksIn h after place 1) c.hand.view_is c.fill_begun-put.ensures.works in
-    works_within old after run.from (at.i + 1) run.from run.n (omega arith) (omega arith)
-    (works_on old at.hand run.from at.i place 1 (at.i + 1) refl refl after at.invariant.5 works)
 
 pub returns-clause-works : goal.returns-clause-works
 returns-clause-works g c =

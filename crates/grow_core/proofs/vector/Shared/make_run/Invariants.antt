@@ -2,7 +2,6 @@ use Rattle.std.proofs.Common.{◌≡◌, ◌+◌, ◌-◌, ◌≤◌, List, leng
 use Rattle.grow_core.specs.Making.{Makes}
 use Rattle.grow_core.specs.Filled.{IsFilledOf}
 use Rattle.grow_core.specs.Segment.{IsSegmentOf, KnowsSegment}
-use Rattle.grow_core.specs.Begun.{AreBegun}
 use Rattle.grow_core.specs.Logs.{fill_steps}
 use Rattle.grow_core.specs.Steps.{WorksIn, AddsOn}
 use Rattle.grow_core.proofs.vector.Shared.make_run.Given as goal
@@ -16,6 +15,5 @@ invariant-loop-i g l =
     × (l.run.from + l.i ≤ l.segment.end)
     × KnowsSegment l.hand l.segment
     × WorksIn l.fn.hand l.hand l.run.from l.i
-    × AddsOn l.self l.fn.hand l.hand l.run l.run.from (λ index. fill_steps index l.run.from l.i)
-    × AreBegun l.self.laid l.segment (l.run.from + l.i) (l.run.n - l.i) l.begun
+    × AddsOn l.fn.hand l.hand l.run (λ index. fill_steps index l.run.from l.i)
     × goal.F-IsAlwaysCallable g l.make

@@ -28,7 +28,7 @@ returns-in-Ok-clause-logs g c =
     let reached = subst (λ r. ReachesSize c.args.self.now c.args.size old mid r) c.in-Won.is c.in_ok-size.ensures.reached in
     let claimed = subst (λ r. LogsReached c.args.size old mid r) c.in-Won.is c.in_ok-size.ensures.logs in
     let is_new = subst (λ r. IsNewIn mid r) c.in-Won.is c.in_ok-size.ensures.new_run in
-    ran_of c.args.self.now old mid c.make_run.new.hand c.args.size c.in-Won.run' claimed (omega (arith, reached)) is_new c.make_run.ensures.works
+    ran_of old mid c.make_run.new.hand c.args.size c.in-Won.run' claimed (omega (arith, reached)) is_new c.make_run.ensures.works
     c.in-Ok.grown.run c.in-Ok.ensures.run c.in-Ok.ensures.adds
 
 pub returns-in-Err-clause-logs_refusal : goal.returns-in-Err-clause-logs_refusal
@@ -37,5 +37,5 @@ returns-in-Err-clause-logs_refusal g c =
     let reached = subst (λ r. ReachesSize c.args.self.now c.args.size old mid r) c.in-Won.is c.in_ok-size.ensures.reached in
     let claimed = subst (λ r. LogsReached c.args.size old mid r) c.in-Won.is c.in_ok-size.ensures.logs in
     let is_new = subst (λ r. IsNewIn mid r) c.in-Won.is c.in_ok-size.ensures.new_run in
-    stopped_up_to_of c.args.self.now old mid c.make_run.new.hand c.args.size c.in-Won.run' claimed (omega (arith, reached)) is_new c.make_run.ensures.works
-    c.in-Err.refused reached.0 c.in-Err.ensures.stopped c.in-Err.ensures.leaves
+    stopped_up_to_of old mid c.make_run.new.hand c.args.size c.in-Won.run' claimed (omega (arith, reached)) is_new c.make_run.ensures.works
+    c.args.self.now c.in-Err.refused reached.0 c.in-Err.ensures.stopped c.in-Err.ensures.leaves

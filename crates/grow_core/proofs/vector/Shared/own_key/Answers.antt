@@ -1,8 +1,7 @@
 use Rattle.std.proofs.Common.{◌≡◌, ℕ, ◌<◌, refl, sym, ap, ◌∙◌, subst, arith}
 use Rattle.seg_core.specs.Segment.{HasPlace, segment_count, most_segments}
-use Rattle.table_core.specs.Table.{IsBlockOf}
+use Rattle.table_core.specs.Table.{IsBlockOf, IsTiedBlockOf}
 use Rattle.grow_core.specs.Keys.{IsKeyAt, layout_in, mark_of}
-use Rattle.grow_core.specs.Ties.{IsBlockBy}
 use Rattle.grow_core.specs.Vector.{VectorView, layout_of}
 use Rattle.grow_core.proofs.KeyRows.{mark_is, none_is_none}
 use Rattle.grow_core.proofs.LastKeys.{key_is_in}
@@ -39,7 +38,7 @@ returns-in-Some-clause-by g c =
     let within : c.args.segment < segment_count c.self.inside.table.layout = subst (λ (v : VectorView g.row.T.Denot). c.args.segment < segment_count (layout_of v)) (sym c.self.view_is) c.requires.within in let small : c.args.segment < most_segments = omega (arith, within, c.self.invariant.whole.layout) in
     let mark : mark_of c.args.self.now.segments ≡ c.args.hand.now.of.mark = ap (λ (v : VectorView g.row.T.Denot). mark_of v.segments) (sym c.self.view_is) ∙ mark_is {claims = c.args.hand.now} c.self.invariant c.self.view_is refl c.requires.ours in
     let at : IsKeyAt (mark_of c.args.self.now.segments) c.args.segment c.in-Some.key = subst (λ m. IsKeyAt m c.args.segment c.in-Some.key) (sym mark) (c.keys-keys.ensures.keyed.keys c.args.segment c.in-Some.key small (sym c.key_of.ensures ∙ c.in-Some.is)) in
-    subst (λ (k : ℕ). IsBlockBy c.args.self.now.segments c.args.self.now.laid k c.in-Some.key.block) at.at c.known_block.ensures.by
+    subst (λ (k : ℕ). IsTiedBlockOf c.args.self.now.segments k c.in-Some.key.block) at.at c.known_block.ensures.tied
 
 pub returns-in-Some-clause-row : goal.returns-in-Some-clause-row
 returns-in-Some-clause-row g c =

@@ -1,6 +1,5 @@
 use Rattle.std.proofs.Common.{◌≡◌, ℕ, [], ◌∷◌, ◌-◌, sym, ap, ◌∙◌, subst, arith}
 use Rattle.seg_core.specs.Segment.{segment_start}
-use Rattle.claim_core.specs.Word.{WordView}
 use Rattle.claim_core.specs.Gain.{IsLent}
 use Rattle.claim_core.specs.Plays.{block_view}
 use Rattle.cell_core.specs.Block.{BlockView, block_len}
@@ -16,10 +15,6 @@ use Rattle.grow_core.proofs.vector.Shared.publish_block.Goals as goal
 -- the entry's places are those of its segment, and so are the block's
 pub visit_publish-visit-requires-clause-places : goal.visit_publish-visit-requires-clause-places
 visit_publish-visit-requires-clause-places g c = (c.requires.places.0 ∙ sym c.entry_tag-tag.ensures.1.from, omega (arith, c.requires.places.1, c.requires.block.length, c.entry_tag-tag.ensures.1.n))
-
-pub visit_publish-visit-requires-clause-past : goal.visit_publish-visit-requires-clause-past
-visit_publish-visit-requires-clause-past g c =
-    let base = ap (λ (w : WordView). w.base) c.requires.ours in omega (arith, base, c.laws.ensures.laid, c.requires.laid, c.requires.places.0)
 
 pub visit_publish-visit-requires-clause-block : goal.visit_publish-visit-requires-clause-block
 visit_publish-visit-requires-clause-block g c = (

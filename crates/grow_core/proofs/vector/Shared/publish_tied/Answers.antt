@@ -1,4 +1,4 @@
-use Rattle.std.proofs.Common.{◌≡◌, ◌≤◌, arith, ℕ, List, sym, subst, ap, ◌∙◌}
+use Rattle.std.proofs.Common.{◌≡◌, arith, ℕ, List, sym, subst, ap, ◌∙◌}
 use Rattle.std.specs.Prelude.{Option, Some, length, replicate}
 use Rattle.tie_core.specs.Tie.{Tie, Made, Begun, Filled}
 use Rattle.claim_core.specs.Gain.{GainsAlong, IsLent}
@@ -6,9 +6,6 @@ use Rattle.claim_core.specs.Plays.{fill_run_gains}
 use Rattle.cell_core.specs.Slot.{Names}
 use Rattle.tie_core.specs.Run.{run_of}
 use Rattle.cell_core.specs.Run.{AreTiedTo, cells_from}
-use Rattle.claim_core.specs.Word.{WordView}
-use Rattle.seg_core.specs.Segment.{segment_start}
-use Rattle.grow_core.specs.Vector.{VectorView}
 use Rattle.grow_core.proofs.Stretches.{cells_length}
 use Rattle.grow_core.proofs.TiedCells.{cell_here, cells_here, row_here}
 use Rattle.grow_core.proofs.TiedSteps.{filled_along}
@@ -17,21 +14,13 @@ use Rattle.grow_core.proofs.vector.Shared.publish_tied.Goals as goal
 pub cell_tag-tag-requires : goal.cell_tag-tag-requires
 cell_tag-tag-requires g c =
     let cell = cell_here c.args.self.now c.args.segment.now c.requires.segment c.args.place c.requires.from (omega (arith, c.requires.within, c.requires.some)) in
-    (omega arith, (c.requires.laid, cell))
+    (omega arith, cell)
 
 pub offer_fill_run-offer-requires-clause-found : goal.offer_fill_run-offer-requires-clause-found
 offer_fill_run-offer-requires-clause-found g c =
     let segment = c.args.segment.now in let hand = c.args.claims.now in
     c.cell_tag-tag.ensures.found_run hand c.args.n c.requires.ours (row_here c.args.self.now segment hand c.requires.segment c.requires.row)
     (cells_here c.args.self.now segment c.requires.segment c.args.place c.requires.from c.args.n c.requires.within)
-
-pub offer_fill_run-offer-requires-clause-claimed : goal.offer_fill_run-offer-requires-clause-claimed
-offer_fill_run-offer-requires-clause-claimed g c =
-    let own = c.self.inside in
-    let laid : segment_start own.table.layout own.count ≤ c.args.place = subst (λ (v : VectorView g.row.T.Denot). v.laid ≤ c.args.place) (sym c.self.view_is) c.requires.laid in
-    let base : own.word.base ≤ c.args.place = omega (arith, laid, c.self.invariant.whole.inside) in
-    let word = ap (λ (v : VectorView g.row.T.Denot). v.word) c.self.view_is in
-    (subst (λ (w : WordView). w.base ≤ c.args.place) (word ∙ sym c.requires.ours) base, c.requires.seen)
 
 pub publish_for-row-requires-clause-ties : goal.publish_for-row-requires-clause-ties
 publish_for-row-requires-clause-ties g c =
@@ -56,7 +45,7 @@ returns-clause-works g c =
     (subst (λ (p : ℕ). GainsAlong (fill_run_gains p offer.about.view) offer.made hand new) told (c.take_back_run.ensures.gained hand lent)) in
     let long : length c.args.pen.cells ≡ c.args.n = ap length c.requires.run.1 ∙ cells_length c.args.n c.args.pen.offset c.args.segment.now.block.now.cells in
     let along = subst (λ (n : ℕ). GainsAlong (fill_run_gains c.args.place offer.about.view) (Some (replicate n (Begun, Filled))) hand new) long gained in
-    (filled_along c.args.place c.args.n c.runs_go_in_order.ensures.fills c.args.self.now hand.of.floor offer.about.table_id offer.about.view hand new lent.seat along).0
+    (filled_along c.args.place c.args.n c.runs_go_in_order.ensures.fills hand.of.floor offer.about.table_id offer.about.view hand new lent.seat along).0
 
 pub returns-clause-adds : goal.returns-clause-adds
 returns-clause-adds g c =
@@ -68,4 +57,4 @@ returns-clause-adds g c =
     (subst (λ (p : ℕ). GainsAlong (fill_run_gains p offer.about.view) offer.made hand new) told (c.take_back_run.ensures.gained hand lent)) in
     let long : length c.args.pen.cells ≡ c.args.n = ap length c.requires.run.1 ∙ cells_length c.args.n c.args.pen.offset c.args.segment.now.block.now.cells in
     let along = subst (λ (n : ℕ). GainsAlong (fill_run_gains c.args.place offer.about.view) (Some (replicate n (Begun, Filled))) hand new) long gained in
-    (filled_along c.args.place c.args.n c.runs_go_in_order.ensures.fills c.args.self.now hand.of.floor offer.about.table_id offer.about.view hand new lent.seat along).1
+    (filled_along c.args.place c.args.n c.runs_go_in_order.ensures.fills hand.of.floor offer.about.table_id offer.about.view hand new lent.seat along).1

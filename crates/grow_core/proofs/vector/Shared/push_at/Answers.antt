@@ -88,24 +88,12 @@ fill_cell-requires g c =
     (begun_still c.hand.inside.claims found c.key_for.ensures.finds c.claiming_laws.ensures.begun) won.cells adds).fresh in
     let ours = adds.of ∙ (c.key_for.ensures.finds.keeps.own.of ∙ (ap (λ (h : HandView). h.of) c.hand.view_is ∙ c.requires.ours)) in
     let cell = cell_found v segment place offset c.in-Ok.key c.known_block-block.result.now c.in-Ok.ensures.key c.known_block-block.ensures.block c.known_block-block.ensures.long
-    c.known_block-block.ensures.by there sum in
+    c.known_block-block.ensures.tied there sum in
     let row = subst (λ (b : BlockView). KnowsRow mid c.in-Ok.key.segment b) (sym c.known_block-block.ensures.block)
     (subst (λ (k : ℕ). KnowsRow mid k c.in-Ok.key.block) (sym c.in-Ok.ensures.key.at) (row_kept found mid adds.of won.cells.rows segment c.in-Ok.key.block c.in-Ok.ensures.row)) in
-    (omega arith, (ours, (c.claiming_laws.ensures.owned found mid (single place) place adds (omega arith, omega arith), (fresh, ((λ yes. let laid = c.is_laid-laid.ensures.laid yes in omega (arith, laid, there.from)), ((λ no. let opened = c.is_laid-laid.ensures.opened no in omega (arith, opened, there.before)), (cell, row)))))))
+    (omega arith, (ours, (c.claiming_laws.ensures.owned found mid (single place) place adds (omega arith, omega arith), (fresh, (cell, row)))))
 
 -- what the fill leaves of the hand
-pub invariant_of-hand-in-Ok-fill_cell : goal.invariant_of-hand-in-Ok-fill_cell
-invariant_of-hand-in-Ok-fill_cell g c =
-    let mark = mark_is c.self.invariant c.self.view_is c.hand.view_is c.requires.ours in
-    let keys = subst (λ names. AreKeys names c.key_for.new.keys) mark
-    (subst (λ (v : VectorView g.row.T.Denot). AreKeys (mark_of v.segments) c.key_for.new.keys) (sym c.self.view_is) c.key_for.ensures.keys) in
-    let here = subst (λ (f : ℕ). HasPlace f c.locate-segment.result.0 c.args.from) (c.layout.ensures.value ∙ ap layout_in mark) c.locate-segment.ensures.segment in
-    held_still c.exchange_as.new.hand c.fill_cell.new.claims c.args.from 1 c.key_for.new.keys c.fill_cell.ensures.works
-    (held_place c.hand.inside.claims c.key_for.new.claims c.exchange_as.new.hand c.hand.inside.keys c.key_for.new.keys c.claiming_laws.ensures.below
-    c.hand.invariant keys c.key_for.ensures.kept c.key_for.ensures.finds c.key_for.ensures.rows c.in-Ok-exchange_as.ensures.cells c.claiming_laws.ensures.places
-    c.places.ensures.one_segment c.in-Ok-exchange_as._run c.locate-segment.result.0 c.args.from c.in-Ok-exchange_as.ensures.claimed
-    c.in-Ok-exchange_as.ensures.run here c.in-Ok.ensures.put)
-
 pub invariant_of-hand-in-Ok-exchange_as : goal.invariant_of-hand-in-Ok-exchange_as
 invariant_of-hand-in-Ok-exchange_as g c =
     let mark = mark_is c.self.invariant c.self.view_is c.hand.view_is c.requires.ours in
@@ -119,12 +107,12 @@ invariant_of-hand-in-Ok-exchange_as g c =
     c.in-Ok-exchange_as.ensures.run here c.in-Ok.ensures.put)
 
 -- the claim, and then the fill
-pub returns-in-Ok-fill_cell-clause-logs : goal.returns-in-Ok-fill_cell-clause-logs
-returns-in-Ok-fill_cell-clause-logs g c =
+pub returns-in-Ok-exchange_as-clause-logs : goal.returns-in-Ok-exchange_as-clause-logs
+returns-in-Ok-exchange_as-clause-logs g c =
     let found = c.key_for.new.claims in let mid = c.exchange_as.new.hand in let won = c.in-Ok-exchange_as.ensures in let place = c.args.from in
     let adds = subst (λ (r : Run). AddsRun found mid r) won.run won.claimed in
     let logs = subst (λ (r : Run). LogsRun found mid r) won.run won.logs in
-    let all = push_of c.claiming_laws.ensures.last c.claiming_laws.ensures.have c.args.self.now c.hand.inside.claims found mid c.fill_cell.new.claims place
+    let all = push_of c.claiming_laws.ensures.last c.claiming_laws.ensures.have c.hand.inside.claims found mid c.fill_cell.new.claims place
     c.key_for.ensures.finds.more adds logs c.fill_cell.ensures.works c.fill_cell.ensures.adds in
-    subst (λ (p : ℕ). LogsPush c.args.self.now c.args.hand.now c.fill_cell.new.claims p) (sym c.in-Ok-fill_cell.ensures.here)
-    (subst (λ (h : HandView). LogsPush c.args.self.now h c.fill_cell.new.claims place) c.hand.view_is all)
+    subst (λ (p : ℕ). LogsPush c.args.hand.now c.fill_cell.new.claims p) (sym c.fill_cell.ensures.here)
+    (subst (λ (h : HandView). LogsPush h c.fill_cell.new.claims place) c.hand.view_is all)

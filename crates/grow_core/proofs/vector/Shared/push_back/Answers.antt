@@ -13,8 +13,8 @@ returns-in-Ok-clause-won g c =
     (subst (λ v. WonPlace c.args.self.now v c.loop-try.hand c.push_at.new.hand c.in-Ok.placed) kept.5 c.in-Ok.ensures.won)
 
 pub returns-in-Ok-clause-logs : goal.returns-in-Ok-clause-logs
-returns-in-Ok-clause-logs g c = win_after _ _ _ c.loop-try.invariant.6 c.args.self.now _ AllFilled _ c.in-Ok.ensures.logs
+returns-in-Ok-clause-logs g c = win_after _ _ _ c.loop-try.invariant.6 _ AllFilled _ c.in-Ok.ensures.logs
 
 pub returns-in-Err-clause-logs_refusal : goal.returns-in-Err-clause-logs_refusal
 returns-in-Err-clause-logs_refusal g c =
-    refusal_after _ _ _ c.loop-try.invariant.6 c.args.self.now 1 c.in-Err.refused c.in-Err.ensures.logs_refusal
+    refusal_after _ _ _ c.loop-try.invariant.6 1 c.in-Err.refused c.in-Err.ensures.logs_refusal

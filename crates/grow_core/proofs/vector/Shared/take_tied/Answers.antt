@@ -1,4 +1,5 @@
 use Rattle.std.proofs.Common.{ℕ, sym, subst, ap, ◌∙◌}
+use Rattle.tie_core.specs.Tie.{Tie}
 use Rattle.claim_core.specs.Word.{WordView}
 use Rattle.claim_core.specs.Gain.{GainsBy, IsLent}
 use Rattle.claim_core.specs.Plays.{mend_gains}
@@ -9,6 +10,10 @@ use Rattle.grow_core.proofs.vector.Shared.take_tied.Goals as goal
 
 pub offer_mend-offer-requires-clause-found : goal.offer_mend-offer-requires-clause-found
 offer_mend-offer-requires-clause-found g c = c.cell_tag-tag.ensures.found c.args.claims.now c.requires.ours c.requires.row
+
+-- the cell's tie has a seat
+pub mend_for-taken-requires-clause-seated : goal.mend_for-taken-requires-clause-seated
+mend_for-taken-requires-clause-seated g c = ap (λ (t : Tie). t.fixed) c.offer_mend-offer.ensures.offer.0 ∙ c.cell_tag-tag.ensures.of.free
 
 -- the hand gets its seat back, with the event of what the try found
 pub returns-clause-logs : goal.returns-clause-logs

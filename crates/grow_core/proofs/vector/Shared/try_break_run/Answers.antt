@@ -1,9 +1,8 @@
 use Rattle.grow_core.specs.Logs.{AllBroken}
-use Rattle.grow_core.proofs.Wins.{run_all_logged}
+use Rattle.grow_core.proofs.Wins.{growth_of}
 use Rattle.grow_core.proofs.vector.Shared.try_break_run.Goals as goal
 
 pub returns-clause-logs : goal.returns-clause-logs
 returns-clause-logs g c =
     let run = c.in_ok-run.run' in let won = c.in_ok-run.ensures in let broken = c.break_places.ensures in
-    run_all_logged c.args.self.now c.args.hand.now c.claim_run.new.hand c.break_places.new.hand run won.logs won.new_run broken.works AllBroken c.break_places.result
-    broken.run broken.adds
+    growth_of c.args.hand.now c.claim_run.new.hand c.break_places.new.hand run won.logs won.new_run broken.works AllBroken broken.adds

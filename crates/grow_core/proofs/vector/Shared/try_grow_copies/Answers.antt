@@ -1,7 +1,7 @@
-use Rattle.grow_core.proofs.Wins.{grown_all_logged}
+use Rattle.grow_core.proofs.Wins.{grown_logged}
 use Rattle.grow_core.proofs.vector.Shared.try_grow_copies.Goals as goal
 
 pub returns-clause-logs : goal.returns-clause-logs
 returns-clause-logs g c =
     let run = c.in_ok-run.run' in let won = c.in_ok-run.ensures in let filled = c.copy_run.ensures in
-    grown_all_logged c.args.self.now c.args.hand.now c.claim_run.new.hand c.copy_run.new.hand run won.logs won.new_run filled.works c.copy_run.result filled.run filled.adds
+    grown_logged c.args.hand.now c.claim_run.new.hand c.copy_run.new.hand run won.logs won.new_run filled.works c.copy_run.result.run filled.run filled.adds

@@ -17,9 +17,9 @@ returns-clause-won g c =
     (claimed_still old mid new filled.works.keeps c.args.self.now c.args.n c.in_ok-run.run' c.in_ok-run.ensures.claimed) filled.run filled.n filled.tokens filled.made
 
 pub returns-clause-logs : goal.returns-clause-logs
-returns-clause-logs g c = grown_all_logged c.args.self.now c.args.hand.now c.claim_run.new.hand c.make_run.new.hand c.in_ok-run.run' c.in_ok-run.ensures.logs c.in_ok-run.ensures.new_run c.make_run.ensures.works c.make_run.result c.make_run.ensures.run c.make_run.ensures.adds
+returns-clause-logs g c = grown_all_logged c.args.hand.now c.claim_run.new.hand c.make_run.new.hand c.in_ok-run.run' c.in_ok-run.ensures.logs c.in_ok-run.ensures.new_run c.make_run.ensures.works c.make_run.result c.make_run.ensures.run c.make_run.ensures.adds
 
 pub returns-clause-logs_refusal : goal.returns-clause-logs_refusal
 returns-clause-logs_refusal g c =
-    stopped_all_logged c.args.self.now c.args.hand.now c.claim_run.new.hand c.make_run.new.hand c.in_ok-run.run' c.in_ok-run.ensures.logs c.in_ok-run.ensures.new_run c.make_run.ensures.works _ c.make_run.result c.in_ok-run.ensures.claimed.n
+    stopped_all_logged c.args.hand.now c.claim_run.new.hand c.make_run.new.hand c.in_ok-run.run' c.in_ok-run.ensures.logs c.in_ok-run.ensures.new_run c.make_run.ensures.works c.args.self.now _ c.make_run.result c.in_ok-run.ensures.claimed.n
     c.make_run.ensures.stopped c.make_run.ensures.leaves

@@ -1,7 +1,7 @@
 -- By the public clauses of the hand and of the cell.
 use Rattle.std.proofs.Common.{Some, ap, sym, ◌∙◌, subst}
 use Rattle.tie_core.specs.Tie.{IsMade, begins}
-use Rattle.memory_tests.proofs.OffersInARow.{is_made, lent_on, begun, still_found, still_seen, filled}
+use Rattle.memory_tests.proofs.OffersInARow.{is_made, lent_on, begun, still_found, still_seen, filled, of_same_word}
 use Rattle.memory_tests.proofs.claim.offers.fill_own.Goals as goal
 
 pub begin_for-pen-requires-clause-tie : goal.begin_for-pen-requires-clause-tie
@@ -82,4 +82,7 @@ returns g c =
     c.fill_for-placed.result.1.made c.args.hand.now c.take_back.new.self c.take_back-2.new.self c.requires.own first lent.seat c.fill_for-placed.ensures.made
     (ap (λ a. a.told) kept ∙ c.offer_fill-offer.ensures.offer.3)
     (c.take_back-2.ensures.gained c.take_back.new.self lent) in
-    record { filled = fact }
+    let same =
+    of_same_word c.fill_for-placed.result.1.about.told c.fill_for-placed.result.1.about.view c.fill_for-placed.result.1.made c.take_back.new.self
+    c.take_back-2.new.self (c.take_back-2.ensures.gained c.take_back.new.self lent) in
+    record { of = same ∙ first.of; filled = fact }

@@ -1,6 +1,5 @@
 -- By the public clauses of the word.
-use Rattle.std.proofs.Common.{ℕ, [], ◌∷◌, ap, sym, ◌∙◌, arith}
-use Rattle.claim_core.specs.Word.{WordView}
+use Rattle.std.proofs.Common.{ℕ, [], ◌∷◌, ap, sym, ◌∙◌}
 use Rattle.claim_core.specs.Plays.{block_view}
 use Rattle.memory_tests.proofs.claim.offers.lend_whole.Goals as goal
 
@@ -9,12 +8,6 @@ lend_to_exchange-requires-clause-ours g c = c.enter-own.ensures.ends.of ∙ c.re
 
 pub lend_to_exchange-requires-clause-tied : goal.lend_to_exchange-requires-clause-tied
 lend_to_exchange-requires-clause-tied g c = c.enter-own.ensures.entry.0
-
-pub lend_to_exchange-requires-clause-past : goal.lend_to_exchange-requires-clause-past
-lend_to_exchange-requires-clause-past g c =
-    let base = ap (λ (w : WordView). w.base) (c.enter-own.ensures.ends.of ∙ c.requires.ours) in
-    let start = c.requires.start in
-    omega arith
 
 pub lend_to_exchange-requires-clause-block : goal.lend_to_exchange-requires-clause-block
 lend_to_exchange-requires-clause-block g c =

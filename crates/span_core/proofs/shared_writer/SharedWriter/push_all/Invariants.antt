@@ -5,4 +5,4 @@ use Rattle.span_core.proofs.shared_writer.SharedWriter.push_all.Given as goal
 abbrev pub invariant-loop-item : goal.invariant-loop-item
 invariant-loop-item g l =
     (l.self.vector ≡ l.fn.self.vector) × AddsPlaces l.fn.self.hand l.self.hand l.n × (l.n ≡ length l.yielded)
-    × LogsPushes l.fn.self.vector l.fn.self.hand l.self.hand l.n
+    × LogsPushes l.fn.self.hand l.self.hand l.n

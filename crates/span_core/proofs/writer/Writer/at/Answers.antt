@@ -5,5 +5,5 @@ use Rattle.span_core.proofs.writer.Writer.at.Goals as goal
 
 pub returns-clause-looks : goal.returns-clause-looks
 returns-clause-looks g c =
-    subst (λ (w : WriterView _). c.args.known ≡ None → LogsRead w.vector c.args.place w.hand c.at.new.hand c.at.result)
+    subst (λ (w : WriterView _). c.args.known ≡ None → LogsRead c.args.place w.hand c.at.new.hand c.at.result)
     c.self.view_is c.at.ensures.looks

@@ -1,6 +1,6 @@
-use Rattle.std.proofs.Common.{subst, ap, IsErrAnd}
+use Rattle.std.proofs.Common.{subst, ap, IfOk, IsErrAnd}
 use Rattle.grow_core.specs.Vector.{VectorView, IsOpenedAt}
-use Rattle.grow_core.specs.Logs.{LogsMend}
+use Rattle.grow_core.specs.Logs.{LogsMend, LogsNothing}
 use Rattle.grow_core.specs.Mend.{TellsValue}
 use Rattle.span_core.specs.Writer.{WriterView}
 use Rattle.span_core.proofs.writer.Writer.mend.Goals as goal
@@ -13,3 +13,7 @@ returns-clause-opened g c =
 pub returns-clause-mends : goal.returns-clause-mends
 returns-clause-mends g c =
     subst (λ (w : WriterView _). LogsMend w.vector c.args.place w.hand c.mend.new.hand c.mend.result) c.self.view_is c.mend.ensures.mends
+
+pub returns-clause-logs : goal.returns-clause-logs
+returns-clause-logs g c =
+    subst (λ (w : WriterView _). IfOk c.mend.result (λ _. LogsNothing w.hand c.mend.new.hand)) c.self.view_is c.mend.ensures.logs

@@ -63,7 +63,7 @@ lay_spec 𝓤 𝓛 𝓜 𝓡 wired T U Q P Ov _ _ _ _ _ g d g₂ d₂ g' d' _ _ 
     -- [the seats of the cells; the tokens; what stays]
     let made : Sr.Denot = record { marker = record {}; ties = row_of t n } in let first : Tr.Denot = record { marker = record {}; tie = t } in let val : Val = vstruct (vcons token_val (vcons token_val vnil)) in
     use0 𝓛 (‵ (SeatWords.own_val (tt, tt) (token_val ∷ []))) (seats_made 𝓛) $ fjoin ! $
-    nothing ! $ fpack ! (HasCodes cv.code shows t) (λ _. ftrue) (parts.codes_at cv.code shows zd j k) $ use0 𝓛 (‵ ((parts.TagWords W Y g₂).own_val (tt, tt) (token_val ∷ []))) (parts.tag_words W Y g₂ 𝓛) $ fjoin ! $
+    nothing ! $ fpack ! (HasCodes cv.code shows t) (λ _. ftrue) (seats.codes_at cv.code shows zd j k) $ use0 𝓛 (‵ ((parts.TagWords W Y g₂).own_val (tt, tt) (token_val ∷ []))) (parts.tag_words W Y g₂ 𝓛) $ fjoin ! $
     nothing ! $ move ! (1 ∷ 0 ∷ []) $ fjoin ! $ move ! (1 ∷ 0 ∷ []) $ fjoin ! $ feq_i ! (List Val) (val ∷ []) (val ∷ []) refl $ fjoin ! $
     fpack ! (Valss (Sr ∷ Tr ∷ [])) (λ uss. fsep (feq (List Val) (val ∷ []) (vstruct (of_list (uss.0 ++ (uss.1.0 ++ []))) ∷ [])) (owns (Sr ∷ Tr ∷ []) (made, (first, tt)) uss)) (token_val ∷ [], (token_val ∷ [], tt)) $
     -- [the result; the tokens; what stays]

@@ -6,7 +6,8 @@ use Rattle.tie_core.specs.Tie.{Tie}
 use Rattle.tie_core.specs.Desk.{HasCodes, IsTieOf, tie_at}
 use Rattle.tie_core.specs.contracts.desk.Desk as desk
 use Rattle.tie_core.specs.contracts.tag.Tag as tag
-use Rattle.tie_core.proofs.DeskParts.{TagWords, tag_words, codes_at}
+use Rattle.tie_core.proofs.SeatSteps.{codes_at}
+use Rattle.tie_core.proofs.DeskParts.{TagWords, tag_words}
 use Rattle.tie_core.specs.contracts.desk.Desk.tag.{ended, clauses}
 use Rattle.tie_core.specs.contracts.desk.Desk.tag.Key.{name as #self}
 use Rattle.tie_core.proofs.desk.Desk.tag.Statement.{statement}

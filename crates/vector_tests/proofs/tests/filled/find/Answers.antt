@@ -1,16 +1,14 @@
-use Rattle.std.proofs.Common.{refl, subst}
+use Rattle.std.proofs.Common.{ℕ, refl, subst}
 use Rattle.grow_core.specs.Logs.{LogsRead}
 use Rattle.vector_tests.proofs.Filled.{found_read, missed_read}
 use Rattle.vector_tests.proofs.tests.filled.find.Goals as goal
 
 pub returns-in-Ok-clause-looks : goal.returns-in-Ok-clause-looks
 returns-in-Ok-clause-looks c =
-    let vector = c.args.vector.now in
-    found_read vector c.args.place c.args.hand.now c.at.new.hand c.in-Ok.at.placed
-    (subst (λ r. LogsRead vector c.args.place c.args.hand.now c.at.new.hand r) c.in-Ok.is (c.at.ensures.looks refl))
+    found_read c.args.place c.args.hand.now c.at.new.hand c.in-Ok.at.placed
+    (subst (λ r. LogsRead c.args.place c.args.hand.now c.at.new.hand r) c.in-Ok.is (c.at.ensures.looks refl))
 
 pub returns-in-Err-clause-looks : goal.returns-in-Err-clause-looks
 returns-in-Err-clause-looks c =
-    let vector = c.args.vector.now in
-    missed_read vector c.args.place c.args.hand.now c.at.new.hand _
-    (subst (λ r. LogsRead vector c.args.place c.args.hand.now c.at.new.hand r) c.in-Err.is (c.at.ensures.looks refl))
+    missed_read ℕ c.args.place c.args.hand.now c.at.new.hand _
+    (subst (λ r. LogsRead c.args.place c.args.hand.now c.at.new.hand r) c.in-Err.is (c.at.ensures.looks refl))

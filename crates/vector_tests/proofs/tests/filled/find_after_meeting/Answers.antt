@@ -9,7 +9,7 @@ use Rattle.vector_tests.proofs.tests.filled.find_after_meeting.Goals as goal
 pub find_again-there-requires-clause-finished : goal.find_again-there-requires-clause-finished
 find_again-there-requires-clause-finished c =
     let old = c.args.a.now.log in let mid = c.find.new.hand.log in let b = c.meet.new.b in
-    let found = c.in-Ok.ensures.looks (omega arith) in
+    let found = c.in-Ok.ensures.looks in
     let adds = subst (λ (steps : List Log). Adds old steps mid) found.1 found.2 in
     let of : b.of ≡ c.args.vector.now.word = c.meet.ensures.also_own.of ∙ c.requires.also_ours in
     let base : b.of.base ≡ 0 = ap (λ (w : WordView). w.base) of ∙ c.requires.unopened in

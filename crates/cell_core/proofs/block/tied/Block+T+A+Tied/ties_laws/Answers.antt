@@ -1,4 +1,5 @@
 use Rattle.cell_core.proofs.Moulds.{row_tied, row_run, mould_row, row_mould_tied, row_seat}
+use Rattle.cell_core.proofs.NewTies.{row_are_ties}
 use Rattle.cell_core.proofs.block.tied.Block+T+A+Tied.ties_laws.Goals as goal
 
 pub returns-clause-row : goal.returns-clause-row
@@ -15,3 +16,6 @@ returns-clause-run g c t m offset n tied near = row_run t m c.args.self.now.cell
 
 pub returns-clause-last : goal.returns-clause-last
 returns-clause-last g c t n tied some = row_seat t n c.args.self.now.cells tied some
+
+pub returns-clause-ties : goal.returns-clause-ties
+returns-clause-ties g c t n = row_are_ties t n

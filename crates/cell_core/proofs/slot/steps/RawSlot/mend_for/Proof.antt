@@ -1,4 +1,4 @@
--- `mend_for` takes the right to write, if it finds the cell broken, and runs the caller's update.
+-- `mend_for` takes the right to write, if it finds the cell broken, whoever broke it, and runs the caller's update.
 use Rattle.std.specs.Prelude.{Option, Some, None}
 use Rattle.std.proofs.Common.{false, ◌-◌, ◌*◌, ◌≡◌, ◌≤◌, le_refl, ℕ, ◌^◌, List, [], ◌∷◌, ◌++◌, refl, sym, ap, subst, lit<, w64}
 use mir.Syntax.{a_type, dcons, dnil}
@@ -29,7 +29,7 @@ use Rattle.atomic_table.proofs.Calls.{fm, seq_cst, found, ands, finds}
 use Rattle.core.proofs.atomic.Steps.{tail}
 use Rattle.cell_core.specs.Fields.{field}
 use Rattle.tie_core.specs.Tie.{Tie, Step, mends, Stage, Made, HasMade, floor_of, offer_owns, update}
-use Rattle.cell_core.specs.Slot.{Names, ShowsOwner, Turn, Spot, IsAt, kept, won, slot_owned}
+use Rattle.cell_core.specs.Slot.{Names, mender_sought, SeeksBroken, Turn, Spot, IsAt, kept, won, slot_owned}
 use Rattle.cell_core.specs.Slot.{fact as is_fact}
 use Rattle.cell_core.specs.contracts.slot.steps.RawSlot as RawSlot
 use Rattle.cell_core.specs.contracts.slot.steps.RawPen as RawPen
@@ -55,7 +55,7 @@ mend_for_spec 𝓤 𝓛 𝓜 𝓡 wired T X K _ _ _ g dict _ =
     let h : Sr.Denot = a.0 in let n : ℕ = a.1.0 in let f : Or.Denot = a.1.1.0 in let p : Ptr = h.word in let z : Ptr = h.room in let b : ℕ = block_of p in let o : ℕ = count_of p in let d : ℕ = block_of z in let r : ℕ = count_of z in
     let β : Lft = κs.0 in let q : Share = qs.0 in let μ : Lft = κs.1.0 in let q' : Share = qs.1.0 in let γ : Names = h.of in let i : ℕ = h.index in let others : Fml = fsep (flft κs.1.1.0 qs.1.1.0) (fsep (flft κs.1.1.1.0 qs.1.1.1.0) (fsep (flft κs.1.1.1.1.0 qs.1.1.1.1.0) ftrue)) in
     let θ : Lft = g.age f.about in let J : Fml = g.inner f.about in let gain : Stage → Stage → Fml = g.gain f.about in let tie : Tie = f.tie in
-    let Asked : Type 0 = (γ.tied ≡ Some tie) × (f.step ≡ mends) × (f.made ≡ None) × (n ≡ 2 ^ 64 - 1 - 4 * 16 ^ i) in
+    let Asked : Type 0 = (γ.tied ≡ Some tie) × (f.step ≡ mends) × (f.made ≡ None) × (n ≡ 2 ^ 64 - 1 - 12 * 16 ^ i) × (tie.fixed ≡ None) in
     let y : (walk_of 𝓛 En hs c).Ghost = ((κs, qs, bounds, a, (pointers_val p z ∷ [], (vint w64 n ∷ [], (token_val ∷ [], tt)))), gh) in let Post : Val → SProp 𝓤 = (walk_of 𝓛 En hs c).post y in
     qed 𝓛 (((‵ (flft β q) ⊛ ‵ (flft μ q') ⊛ ‵ others) ⊛ ‵ (owns (types_at En.signature.params κs) a y.0.4)) ∷ raw (fact 𝓤 _) ∷ raw (fact 𝓤 _) ∷ raw (fact 𝓤 _) ∷ raw (fact 𝓤 Asked) ∷ []) ∵
     keep ! (4 ∷ 0 ∷ []) $ heard ! Asked (λ asked. split ! $ split3 ! $ move ! (3 ∷ []) $ fsplit ! $ fsplit ! $ move ! (2 ∷ []) $ fsplit3 ! $ move ! (1 ∷ []) $ fsplit ! $ keep ! (5 ∷ 1 ∷ 6 ∷ 7 ∷ 8 ∷ []) $
@@ -77,8 +77,8 @@ mend_for_spec 𝓤 𝓛 𝓜 𝓡 wired T X K _ _ _ g dict _ =
     sets ! (of_opd ! (get_in ! (fld ! refl (stop !)) (sub ! 2 refl (whole !)))) refl (tt, tt) $
     first ! $ blocks ! $ nothing ! $ move ! (4 ∷ 0 ∷ []) $ join ! $ move ! (1 ∷ 0 ∷ []) $ join ! $ move ! (3 ∷ 0 ∷ []) $ join ! $ move ! (4 ∷ 2 ∷ 0 ∷ []) $
     use3 𝓛 (raw (𝓣.C _ (vptr b o ∷ vint w64 n ∷ seq_cst ∷ []) (λ u. mean 𝓛 (found after u))))
-    (via 𝓤 _ (stepped_both_at 𝓛 R γ b o d r i s at w (λ k. bit_and k n) (λ k. bit_and k (15 - 4)) (λ within short. subst (λ (u : ℕ). Turns R γs i (λ k. bit_and k u) (λ k. bit_and k (15 - 4))) (sym asked.3) (turns_and R γs i within short 4 (lit< tt))) tie.floor θ v J (subst (λ (τ : Option Tie). tie.floor ≤ floor_of τ) (sym asked.0) (le_refl tie.floor)) Shown (sep 𝓤 (sem 𝓛 Update) (emp 𝓤))
-    (steps.asks_by 𝓛 R γ α (t.1 i) d r θ J gain tie mends (λ k. bit_and k (15 - 4)) Took (emp 𝓤) asked.0 (steps.mends_shown 𝓛 R γ α (t.1 i) d r)))
+    (via 𝓤 _ (stepped_both_at 𝓛 R γ b o d r i s at w (λ k. bit_and k n) (λ k. bit_and k (15 - 12)) (λ within short. subst (λ (u : ℕ). Turns R γs i (λ k. bit_and k u) (λ k. bit_and k (15 - 12))) (sym asked.3) (turns_and R γs i within short 12 (lit< tt))) tie.floor θ v J (subst (λ (τ : Option Tie). tie.floor ≤ floor_of τ) (sym asked.0) (le_refl tie.floor)) Shown (sep 𝓤 (sem 𝓛 Update) (emp 𝓤))
+    (steps.asks_by 𝓛 R γ α (t.1 i) d r θ J gain tie mends (λ k. bit_and k (15 - 12)) Took (emp 𝓤) asked.0 (steps.mends_seated 𝓛 R γ α (t.1 i) d r tie asked.0 asked.4)))
     (ands 𝓛 𝓜 𝓡 (code.calls-core::raw_atomic::fetch_and 𝓡.env wired) (block_ptr b o) n are.1.0.1 after)) $
     sets ! (agg ! (and_then ! (lit ! tt) (no_more !))) refl (tt, (record { fits = lit< tt }, tt)) $
     Calls-last ! (fm 𝓛 𝓜 𝓡) (found after) (and_then ! (get ! refl) (and_then ! (get ! refl) (and_then ! (get ! refl) (no_more !)))) (λ u. finds ! after (λ N fits.
@@ -92,16 +92,16 @@ mend_for_spec 𝓤 𝓛 𝓜 𝓡 wired T X K _ _ _ g dict _ =
     -- [the table's token; what is shown; the token; its way back; the lending; the others]
     move ! (0 ∷ 3 ∷ []) $ use2 𝓛 (later (‵ (flft μ q'))) (apply∗ 𝓤 (A.lft θ v) (H.⇛ (A.lft μ q'))) $ await ! tt $
     -- [the offer's token; what is shown; the token; the lending; the others]
-    move ! (0 ∷ 4 ∷ []) $ join ! $ move ! (2 ∷ 0 ∷ []) $ join ! $ move ! (1 ∷ []) $ fsplit ! $ fsplit ! $ move ! (1 ∷ []) $ fpick ! (λ owner. drop ! $ let k : ℕ = field N i in
+    move ! (0 ∷ 4 ∷ []) $ join ! $ move ! (2 ∷ 0 ∷ []) $ join ! $ move ! (1 ∷ []) $ fsplit ! $ let k : ℕ = field N i in
     -- [the right; what is told; the tokens; the lending]
-    let p' : Ptr = block_ptr b o in let z' : Ptr = block_ptr d r in let pen : Hr.Denot = record { word = p'; room = z'; marker = record {}; of = γ; index = i; first = false; sought = 5; found = k } in
-    move ! (3 ∷ 0 ∷ []) $ fjoin ! $ nothing ! $ fpack ! (IsAt R γ i r s) (λ _. ftrue) at $ fjoin ! $ fpack ! Spot (λ m. fsep (is_fact (IsAt R γ i r m)) (fsep (kept R m.0 m.1 b o d m.2 β) (won R γ m.1.0 (m.1.1 i) d r false 5 k))) s $
+    let p' : Ptr = block_ptr b o in let z' : Ptr = block_ptr d r in let pen : Hr.Denot = record { word = p'; room = z'; marker = record {}; of = γ; index = i; first = false; sought = mender_sought k; found = k } in
+    move ! (3 ∷ 0 ∷ []) $ fjoin ! $ nothing ! $ fpack ! (IsAt R γ i r s) (λ _. ftrue) at $ fjoin ! $ fpack ! Spot (λ m. fsep (is_fact (IsAt R γ i r m)) (fsep (kept R m.0 m.1 b o d m.2 β) (won R γ m.1.0 (m.1.1 i) d r false (mender_sought k) k))) s $
     use0 𝓛 (‵ ((PenWords ℓ R).own_val (p', (z', (tt, tt))) (pointers_val p' z' ∷ []))) (pen_made ℓ R 𝓛 p' z') $ fjoin ! $
     move ! (1 ∷ []) $ fpick ! (λ m. fsplit ! $ move ! (1 ∷ []) $ fpick ! (λ has. drop ! $ let f' : Or.Denot = record { marker = record {}; tie = tie; about = f.about; step = f.step; made = Some m } in
     use0 𝓛 (‵ ((OfferWords ℓ' Xr Kr g).own_val (record {}, tt) (token_val ∷ []))) (offer_made ℓ' Xr Kr g 𝓛) $ fjoin ! $
     -- [the offer; the pen; the tokens]
-    let val : Val = vstruct (vcons (vint w64 N) (vcons (pointers_val p' z') (vcons token_val vnil))) in let Told : Type 0 = (γ ≡ γ) × (i ≡ i) × (false ≡ false) × (5 ≡ 5) × (k ≡ k) × (tie ≡ tie) × (f.about ≡ f.about) × (f.step ≡ f.step) × HasMade mends k (Some m) × ShowsOwner γ.tied k in
+    let val : Val = vstruct (vcons (vint w64 N) (vcons (pointers_val p' z') (vcons token_val vnil))) in let Told : Type 0 = (γ ≡ γ) × (i ≡ i) × (false ≡ false) × SeeksBroken k (mender_sought k) × (k ≡ k) × (tie ≡ tie) × (f.about ≡ f.about) × (f.step ≡ f.step) × HasMade mends k (Some m) in
     nothing ! $ move ! (1 ∷ 0 ∷ []) $ fjoin ! $ move ! (1 ∷ 0 ∷ []) $ fjoin ! $ nothing ! $ flt_i ! N (2 ^ 64) fits $ feq_i ! (List Val) (vint w64 N ∷ []) (vint w64 N ∷ []) refl $ fjoin ! $ move ! (0 ∷ 2 ∷ []) $ fjoin ! $ feq_i ! (List Val) (val ∷ []) (val ∷ []) refl $ fjoin ! $
     fpack ! (Valss (u64 ∷ Hr ∷ Or ∷ [])) (λ uss. fsep (feq (List Val) (val ∷ []) (vstruct (of_list (uss.0 ++ (uss.1.0 ++ (uss.1.1.0 ++ [])))) ∷ [])) (owns (u64 ∷ Hr ∷ Or ∷ []) (N, (pen, (f', tt))) uss)) (vint w64 N ∷ [], (pointers_val p' z' ∷ [], (token_val ∷ [], tt))) $
-    use0 𝓛 (raw (fact 𝓤 Told)) (fact_i 𝓤 Told (emp 𝓤) (refl, refl, refl, refl, refl, refl, refl, refl, has, owner)) $ nothing ! $ nothing ! $ fjoin ! $ nothing ! $ fjoin ! $ nothing ! $ fjoin ! $
-    returns ! (look_at ! 0 refl) $ free_all ! refl $ keep ! (4 ∷ 0 ∷ 2 ∷ 1 ∷ []) $ by ! (leaves 𝓛 En hs c y val (N, pen, f') (tt, (tt, (tt, tt))) (tt, (tt, (tt, tt)))))))))))))))))
+    use0 𝓛 (raw (fact 𝓤 Told)) (fact_i 𝓤 Told (emp 𝓤) (refl, refl, refl, steps.seeks_broken k, refl, refl, refl, refl, has)) $ nothing ! $ nothing ! $ fjoin ! $ nothing ! $ fjoin ! $ nothing ! $ fjoin ! $
+    returns ! (look_at ! 0 refl) $ free_all ! refl $ keep ! (4 ∷ 0 ∷ 2 ∷ 1 ∷ []) $ by ! (leaves 𝓛 En hs c y val (N, pen, f') (tt, (tt, (tt, tt))) (tt, (tt, (tt, tt))))))))))))))))

@@ -2,7 +2,7 @@
 ghost use Rattle.std.specs.Arc.{arc_value};
 ghost use Rattle.std.specs.Prelude.{◌≡◌, ◌≤◌, ◌↔◌, IfOk, IsTrue};
 ghost use Rattle.claim_core.specs.Hand.{IsWholeHand, SeesSize, seen_size};
-ghost use Rattle.grow_core.specs.Vector.{limit_of, layout_of};
+ghost use Rattle.grow_core.specs.Vector.{limit_of};
 ghost use Rattle.seg_core.specs.Segment.{IsLimit};
 ghost use Rattle.caller_core.specs.Caller.{IsCaller, IsNewCaller, KeepsCaller};
 

@@ -23,11 +23,11 @@ use Rattle.claim_core.specs.Plays.{cell_stage}
 use Rattle.claim_core.specs.Ties.{Matches}
 use Rattle.book_core.specs.Laws.{HistoriesTile}
 use Rattle.cell_core.specs.Block.{BlockView, block_len, cell_at}
-use Rattle.cell_core.specs.Fixed.{stage_in}
+use Rattle.cell_core.specs.Fixed.{stage_in, untied_cell}
 use Rattle.cell_core.specs.Member.{MemberView}
 use Rattle.table_core.specs.Table.{KeyView}
 use Rattle.grow_core.specs.Keys.{KeyRow, key_at}
-use Rattle.grow_core.specs.Closing.{IsKeptOf, IsListOfHistory, IsStillOpen, AreFixed, AreSettled, AreToldBy, IsListSoFar, IsMemberOf, untied}
+use Rattle.grow_core.specs.Closing.{IsKeptOf, IsListOfHistory, IsStillOpen, AreFixed, AreSettled, AreToldBy, IsListSoFar, IsMemberOf}
 use Rattle.grow_core.specs.Parts.{AreLong, AreStaged, member_stage, values_in}
 use Rattle.grow_core.specs.Token.{place_in}
 use Rattle.grow_core.specs.Vector.{VectorView}
@@ -185,7 +185,7 @@ still_more word hand cells f next count size segment row known known' key still 
 -- a segment past the members has another key, and its cells are the same except for their ties
 pub kept_again : {T : Type 0} (f : ℕ) (mark : List ℕ) (before : KeyRow) (names names' : List ℕ) (row : KeyRow) (known : List (MemberView T)) (count segment : ℕ) (key key' : KeyView)
     → IsKeptOf f mark before names row known count → length row ≡ 40 → segment < 40 → segment < count → key_at row segment ≡ Some key
-    → ((j : ℕ) → j ≢ segment → slice_index names' j ≡ slice_index names j) → ((q : ℕ) → untied (cell_at key'.block q) ≡ untied (cell_at key.block q))
+    → ((j : ℕ) → j ≢ segment → slice_index names' j ≡ slice_index names j) → ((q : ℕ) → untied_cell (cell_at key'.block q) ≡ untied_cell (cell_at key.block q))
     → IsKeptOf f mark before names' (slice_set row segment (Some key')) known count
 kept_again f mark before names names' row known count segment key key' kept rows small first has others same_cells =
     let row' : KeyRow = slice_set row segment (Some key') in
@@ -198,7 +198,7 @@ kept_again f mark before names names' row known count segment key key' kept rows
       of = kept.of;
       later = λ s o a b low at at' past. dite (ℕ_discrete s segment)
           (λ same. let both : Some b ≡ Some key' = sym at' ∙ ap (key_at row') same ∙ is_there in let b_is : b ≡ key' = (let z = both in cc) in
-          ap (λ (u : KeyView). untied (cell_at u.block o)) b_is ∙ same_cells o ∙ kept.later s o a key low at (ap (key_at row) same ∙ has) past)
+          ap (λ (u : KeyView). untied_cell (cell_at u.block o)) b_is ∙ same_cells o ∙ kept.later s o a key low at (ap (key_at row) same ∙ has) past)
           (λ other. kept.later s o a b low at (sym (get_or-set_other row segment s (Some key') None other) ∙ at') past);
       after = λ s low ge. others s (λ same. omega (arith, same, ge, first)) ∙ kept.after s low ge;
     }

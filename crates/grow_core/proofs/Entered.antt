@@ -12,15 +12,14 @@ use Rattle.claim_core.specs.Shares.{all_shares}
 use Rattle.claim_core.specs.Word.{WordView}
 use Rattle.claim_core.specs.Gain.{EndsAt, IsTiedTo}
 use Rattle.claim_core.specs.Hand.{HandView, IsNewHand}
+use Rattle.cell_core.specs.Fixed.{untied_cell}
 use Rattle.cell_core.specs.Block.{BlockView, block_len, cell_at}
 use Rattle.cell_core.specs.Member.{MemberView}
 use Rattle.table_core.specs.Table.{TableView, KeyView, IsKeyOf, IsLengthOf, KeepsOtherBonds}
 use Rattle.table_core.specs.Entry.{mould_in, tie_in}
-use Rattle.grow_core.specs.Closing.{untied}
 use Rattle.grow_core.specs.Keys.{KeyRow, key_at}
 use Rattle.grow_core.specs.Parts.{AreWhole}
-use Rattle.grow_core.specs.Ties.{TagRow, AreTiedBelow, AreTiedTo, IsTagOf}
-use Rattle.grow_core.specs.Token.{place_in}
+use Rattle.grow_core.specs.Ties.{TagRow, AreTiedBelow, IsTagOf}
 use Rattle.grow_core.proofs.Places.{pushed_there, pushed_elsewhere, within_length, written_cells}
 use Rattle.grow_core.proofs.Settled.{segment_ends_later}
 
@@ -103,7 +102,7 @@ cleared_whole {T} f names names' row known len limit count segment whole past ot
 pub renewed_whole : {T : Type 0} (f : ℕ) (names : List ℕ) (table' : TableView) (row : KeyRow) (known : List (MemberView T)) (segment len limit count : ℕ) (key key' : KeyView) (block : BlockView)
     → AreWhole f names row known len limit count → table'.layout ≡ f → segment < 40 → segment < segment_count f
     → key_at row segment ≡ Some key → ((j : ℕ) → j ≢ segment → slice_index table'.names j ≡ slice_index names j) → IsKeyOf table' segment block key'
-    → block_len block ≡ block_len key.block → ((q : ℕ) → untied (cell_at block q) ≡ untied (cell_at key.block q))
+    → block_len block ≡ block_len key.block → ((q : ℕ) → untied_cell (cell_at block q) ≡ untied_cell (cell_at key.block q))
     → AreWhole table'.layout table'.names (slice_set row segment (Some key')) known len limit count
 renewed_whole f names table' row known segment len limit count key key' block whole same_layout small few has others of same_len cells =
     written_cells f names table' row known known segment 0 0 len len limit count key key' block whole same_layout small few (let more = segment_ends_later f segment in omega (arith, more)) has others of same_len

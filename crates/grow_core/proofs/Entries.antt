@@ -1,5 +1,5 @@
 -- The gain of a hand that visits an entry whose cells are tied: it knows where the segment's cells are.
-use Rattle.std.proofs.Common.{◌≡◌, ℕ, zero, suc, ◌+◌, ◌-◌, ◌<◌, ◌≤◌, List, [], ◌∷◌, ◌++◌, refl, sym, ap, ◌∙◌, subst, ⊎_elim, arith}
+use Rattle.std.proofs.Common.{◌≡◌, ℕ, zero, suc, ◌+◌, ◌-◌, ◌<◌, List, [], ◌∷◌, ◌++◌, refl, sym, ap, ◌∙◌, subst, ⊎_elim, arith}
 use Rattle.std.specs.Prelude.{Option, Some, None, IfSome, IfNone, length, option_map, slice_get}
 use Rattle.std.specs.Borrow.{Bor}
 use Rattle.std.specs.List.{Contains}
@@ -10,7 +10,7 @@ use lib.Seq.{get_or-set_other}
 use Rattle.std.proofs.lemmas.List.{append-nil}
 use Rattle.std.proofs.lemmas.List.Elements.{Contains-append_left, Contains-append_right}
 use Rattle.seg_core.specs.Segment.{segment_start, segment_end, segment_count}
-use Rattle.tie_core.specs.Tie.{Tie, IsTied}
+use Rattle.tie_core.specs.Tie.{Tie}
 use Rattle.tie_core.specs.Tags.{TagView}
 use Rattle.tie_core.specs.Visit.{Content}
 use Rattle.claim_core.specs.declared.role.RowAt.{RowAt}

@@ -23,7 +23,7 @@ use Rattle.grow_core.specs.declared.errors.AtError.TheVariants as at
 use Rattle.grow_core.specs.declared.errors.MendError.{MendError}
 use Rattle.grow_core.specs.declared.errors.MendError.TheVariants as mend
 use Rattle.grow_core.specs.declared.read.At.{At}
-use Rattle.grow_core.specs.Logs.{IsFinishedIn, LogsMend, LogsMendRefusal, LogsNoMend, LogsRead, fill_steps, step_of, mend_steps, pending_look, value_look, broken_look}
+use Rattle.grow_core.specs.Logs.{IsFinishedIn, LogsMend, LogsMendRefusal, LogsNoMend, LogsRead, fill_steps, step_of, mend_steps, pending_look, broken_look}
 use Rattle.grow_core.specs.Mend.{IsMendDue, IsSeen, IsUnmendedAt, SaysFilled, TellsNoOther, TellsValue}
 use Rattle.grow_core.specs.Parts.{filled_in}
 use Rattle.grow_core.specs.Read.{ShowsNoOther, ShowsValue}

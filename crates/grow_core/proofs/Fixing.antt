@@ -9,10 +9,10 @@ use Rattle.claim_core.specs.Hand.{HandView}
 use Rattle.claim_core.specs.Plays.{ReadsBy, ShowsAt, cell_stage}
 use Rattle.claim_core.specs.Ties.{Finds}
 use Rattle.cell_core.specs.Block.{BlockView, FixesCell, KeepsOtherCells, block_len, cell_at}
-use Rattle.cell_core.specs.Fixed.{fixed_cell, stage_in}
+use Rattle.cell_core.specs.Fixed.{fixed_cell, stage_in, untied_cell}
 use Rattle.cell_core.specs.Mould.{first_seat}
 use Rattle.cell_core.specs.Slot.{Names}
-use Rattle.grow_core.specs.Closing.{AreFixed, AreToldBy, untied}
+use Rattle.grow_core.specs.Closing.{AreFixed, AreToldBy}
 use Rattle.grow_core.specs.Keys.{layout_in}
 use Rattle.grow_core.specs.Ties.{KnowsRow, row_at}
 use Rattle.grow_core.specs.Token.{place_in}
@@ -20,7 +20,7 @@ use Rattle.grow_core.specs.Token.{place_in}
 -- the first i cells of a segment are fixed, and the history shows the place of each so; the others stay
 pub record AreFixedUpTo (hand : HandView) (f segment : ℕ) (old new : BlockView) (i : ℕ) : Type 0 where
   pub len : block_len new ≡ block_len old
-  pub cells : (q : ℕ) → untied (cell_at new q) ≡ untied (cell_at old q)
+  pub cells : (q : ℕ) → untied_cell (cell_at new q) ≡ untied_cell (cell_at old q)
   pub rest : (q : ℕ) → i ≤ q → cell_at new q ≡ cell_at old q
   pub fixed : (q : ℕ) → q < i → (s : Stage) × (stage_in (cell_at new q) ≡ Some s) × ShowsAt hand (place_in f segment q) (cell_stage s)
 
@@ -43,14 +43,14 @@ found_in hand f segment block i place seat mark knows tied less at in_seat =
 pub fixed_more : (hand : HandView) (f segment : ℕ) (old mid new : BlockView) (i place : ℕ) (s : Stage) → AreFixedUpTo hand f segment old mid i → i < block_len mid → FixesCell mid new i s
     → KeepsOtherCells mid new i → block_len new ≡ block_len mid → place ≡ place_in f segment i → ShowsAt hand place (cell_stage s) → AreFixedUpTo hand f segment old new (i + 1)
 fixed_more hand f segment old mid new i place s are less fixes others len at shows =
-    let here : untied (cell_at new i) ≡ untied (cell_at mid i) =
-    ap (λ (γs : List Names). untied (cell_at (record { cells = γs }) i)) fixes.cells
-    ∙ ap untied (get_or-set_same mid.cells i (fixed_cell (cell_at mid i) s) (record { value_name = 0; broken_name = 0; epoch = []; tied = None }) less) in
+    let here : untied_cell (cell_at new i) ≡ untied_cell (cell_at mid i) =
+    ap (λ (γs : List Names). untied_cell (cell_at (record { cells = γs }) i)) fixes.cells
+    ∙ ap untied_cell (get_or-set_same mid.cells i (fixed_cell (cell_at mid i) s) (record { value_name = 0; broken_name = 0; epoch = []; tied = None }) less) in
     record {
       len = len ∙ are.len;
       cells = λ q. dite (ℕ_discrete q i)
-          (λ same. ap (λ (o : ℕ). untied (cell_at new o)) same ∙ here ∙ ap (λ (o : ℕ). untied (cell_at mid o)) (sym same) ∙ are.cells q)
-          (λ other. ap untied (others q other) ∙ are.cells q);
+          (λ same. ap (λ (o : ℕ). untied_cell (cell_at new o)) same ∙ here ∙ ap (λ (o : ℕ). untied_cell (cell_at mid o)) (sym same) ∙ are.cells q)
+          (λ other. ap untied_cell (others q other) ∙ are.cells q);
       rest = λ q past. others q (λ e. omega (arith, e, past)) ∙ are.rest q (omega (arith, past));
       fixed = λ q low. dite (ℕ_discrete q i)
           (λ same. subst (λ (o : ℕ). (t : Stage) × (stage_in (cell_at new o) ≡ Some t) × ShowsAt hand (place_in f segment o) (cell_stage t)) (sym same)

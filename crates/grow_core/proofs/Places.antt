@@ -9,12 +9,12 @@ use mathlib.Core.Logic.{dite}
 use native.Mathlib.Decide.{ℕ_discrete}
 use Rattle.seg_core.specs.Segment.{segment_start, segment_end, segment_count, most_places, HasPlace}
 use Rattle.seg_core.proofs.Doubling.{segment_end-le, one_segment, starts_at_power}
+use Rattle.cell_core.specs.Fixed.{untied_cell}
 use Rattle.cell_core.specs.Block.{BlockView, IsMemberAt, KeepsOtherCells, block_len, cell_at}
 use Rattle.cell_core.specs.Member.{MemberView, HasNames}
 use Rattle.cell_core.specs.Slot.{Names}
 use Rattle.table_core.specs.Table.{TableView, KeyView, IsKeyOf, IsBlockOf}
 use Rattle.grow_core.specs.Keys.{KeyRow, IsKeyAt, key_at, mark_of}
-use Rattle.grow_core.specs.Closing.{untied}
 use Rattle.grow_core.specs.Token.{place_in}
 use Rattle.grow_core.specs.Parts.{AreMembers, AreWhole, AreBrokenIn, IsBrokenIn, values_in}
 
@@ -33,11 +33,6 @@ pub value_at : {T : Type 0} (known : List (MemberView T)) (i : ℕ) (m : MemberV
 value_at [] i m is = absurd (let z = is in cc)
 value_at (h ∷ known) zero m is = let same : h ≡ m = (let z = is in cc) in ap (λ (u : MemberView _). Some u.value) same
 value_at (h ∷ known) (suc i) m is = value_at known i m is
-
--- what is known of a place has the value that the list has there
-pub known_value : {T : Type 0} (known : List (MemberView T)) (i : ℕ) (m : MemberView T) (x : T) → slice_get known i ≡ Some m
-    → slice_get (values_in known) i ≡ Some (Some x) → m.value ≡ Some x
-known_value known i m x is there = let both : Some m.value ≡ Some (Some x) = sym (value_at known i m is) ∙ there in let z = both in cc
 
 -- what is put at the end is there, and all else as it was
 pub pushed_there : {X : Type 0} (xs : List X) (x : X) → slice_get (xs ++ x ∷ []) (length xs) ≡ Some x
@@ -114,11 +109,11 @@ kept_at old new offset m len same was = record {
 }
 
 -- what is known of a cell is known of it with another tie, and so is what is known of a cell of a block
-pub untied_names : {T : Type 0} (old new : Names) (v : Option T) (name : ℕ) (epoch : Lft) → untied new ≡ untied old → HasNames old v name epoch → HasNames new v name epoch
+pub untied_names : {T : Type 0} (old new : Names) (v : Option T) (name : ℕ) (epoch : Lft) → untied_cell new ≡ untied_cell old → HasNames old v name epoch → HasNames new v name epoch
 untied_names old new (Some x) name epoch same known = known ∙ sym (ap (λ (c : Names). c.value_name) same)
 untied_names old new None name epoch same known = known ∙ sym (ap (λ (c : Names). c.epoch) same)
 
-pub untied_at : {T : Type 0} (old new : BlockView) (offset : ℕ) (m : MemberView T) → block_len new ≡ block_len old → untied (cell_at new offset) ≡ untied (cell_at old offset)
+pub untied_at : {T : Type 0} (old new : BlockView) (offset : ℕ) (m : MemberView T) → block_len new ≡ block_len old → untied_cell (cell_at new offset) ≡ untied_cell (cell_at old offset)
     → IsMemberAt old offset m → IsMemberAt new offset m
 untied_at old new offset m len same was = record {
   within = (let within = was.within in omega (arith, len, within));
@@ -133,7 +128,7 @@ module _ {T : Type 0} (f : ℕ) (row row' : KeyRow) (known known' : List (Member
   pub members_changed : AreMembers f row known → segment < 40 → key_at row segment ≡ Some key → key_at row' segment ≡ Some key'
       → ((s : ℕ) → s ≢ segment → key_at row' s ≡ key_at row s)
       → block_len key'.block ≡ block_len key.block
-      → ((q : ℕ) → q < offset → untied (cell_at key'.block q) ≡ untied (cell_at key.block q)) → ((q : ℕ) → offset + n ≤ q → untied (cell_at key'.block q) ≡ untied (cell_at key.block q))
+      → ((q : ℕ) → q < offset → untied_cell (cell_at key'.block q) ≡ untied_cell (cell_at key.block q)) → ((q : ℕ) → offset + n ≤ q → untied_cell (cell_at key'.block q) ≡ untied_cell (cell_at key.block q))
       → ((q : ℕ) → q < place → slice_get known' q ≡ slice_get known q) → ((q : ℕ) → place + n ≤ q → slice_get known' q ≡ slice_get known q)
       → ((i : ℕ) (m : MemberView T) → i < n → slice_get known' (place + i) ≡ Some m → IsMemberAt key'.block (offset + i) m)
       → place + n ≤ segment_end f segment → AreMembers f row' known'
@@ -141,7 +136,7 @@ module _ {T : Type 0} (f : ℕ) (row row' : KeyRow) (known known' : List (Member
       dite (ℕ_discrete s segment)
       (λ same. let same_key : Some key' ≡ Some k = sym has' ∙ ap (key_at row') (sym same) ∙ at in let is_key : key' ≡ k = (let z = same_key in cc) in
       let starts = ap (segment_start f) same in
-      let still : slice_get known' (place_in f s o) ≡ slice_get known (place_in f s o) → untied (cell_at key'.block o) ≡ untied (cell_at key.block o) → IsMemberAt k.block o m = (λ known_same cell_same.
+      let still : slice_get known' (place_in f s o) ≡ slice_get known (place_in f s o) → untied_cell (cell_at key'.block o) ≡ untied_cell (cell_at key.block o) → IsMemberAt k.block o m = (λ known_same cell_same.
       let was : IsMemberAt key.block o m = are segment o key m small has (subst (λ (x : ℕ). place_in f x o < segment_end f x) same inside) (ap (λ (x : ℕ). slice_get known (place_in f x o)) (sym same) ∙ sym known_same ∙ is) in
       subst (λ (u : KeyView). IsMemberAt u.block o m) is_key (untied_at key.block key'.block o m len cell_same was)) in
       ⊎_elim (λ lt. still (known_before (place_in f s o) (omega (arith, lt, starts))) (cells_before o lt))
@@ -179,7 +174,7 @@ module _ {T : Type 0} (f : ℕ) (names : List ℕ) (table' : TableView) (row : K
   pub written_cells : AreWhole f names row known len limit count → table'.layout ≡ f → segment < 40 → segment < segment_count f → place_in f segment offset + n ≤ segment_end f segment
       → key_at row segment ≡ Some key → ((j : ℕ) → j ≢ segment → slice_index table'.names j ≡ slice_index names j) → IsKeyOf table' segment block key'
       → block_len block ≡ block_len key.block
-      → ((q : ℕ) → q < offset → untied (cell_at block q) ≡ untied (cell_at key.block q)) → ((q : ℕ) → offset + n ≤ q → untied (cell_at block q) ≡ untied (cell_at key.block q))
+      → ((q : ℕ) → q < offset → untied_cell (cell_at block q) ≡ untied_cell (cell_at key.block q)) → ((q : ℕ) → offset + n ≤ q → untied_cell (cell_at block q) ≡ untied_cell (cell_at key.block q))
       → ((q : ℕ) → q < place_in f segment offset → slice_get known' q ≡ slice_get known q) → ((q : ℕ) → place_in f segment offset + n ≤ q → slice_get known' q ≡ slice_get known q)
       → ((i : ℕ) (m : MemberView T) → i < n → slice_get known' (place_in f segment offset + i) ≡ Some m → IsMemberAt block (offset + i) m)
       → length known' ≡ len' → len' ≤ limit → len' ≤ segment_start f count → AreWhole table'.layout table'.names row' known' len' limit count
@@ -209,8 +204,8 @@ module _ {T : Type 0} (f : ℕ) (names : List ℕ) (table' : TableView) (row : K
             (λ same. subst IsSome (sym (ap (key_at row') same ∙ here)) (some_is key'))
             (λ other. subst IsSome (sym (away s other)) (whole.there s low));
         of = members_changed f row row' known known' segment offset n key key' whole.of small has here away (ap block_len (sym is_block) ∙ same_len)
-            (λ q low. subst (λ (b : BlockView). untied (cell_at b q) ≡ untied (cell_at key.block q)) is_block (cells_before q low))
-            (λ q past. subst (λ (b : BlockView). untied (cell_at b q) ≡ untied (cell_at key.block q)) is_block (cells_after q past)) known_before known_after
+            (λ q low. subst (λ (b : BlockView). untied_cell (cell_at b q) ≡ untied_cell (cell_at key.block q)) is_block (cells_before q low))
+            (λ q past. subst (λ (b : BlockView). untied_cell (cell_at b q) ≡ untied_cell (cell_at key.block q)) is_block (cells_after q past)) known_before known_after
             (λ i m low is. subst (λ (b : BlockView). IsMemberAt b (offset + i) m) is_block (there i m low is)) inside;
       })
 
@@ -224,7 +219,7 @@ pub written_whole : {T : Type 0} (f : ℕ) (names : List ℕ) (table' : TableVie
     → length known' ≡ len' → len' ≤ limit → len' ≤ segment_start f count → AreWhole table'.layout table'.names (slice_set row segment (Some key')) known' len' limit count
 written_whole f names table' row known known' segment offset len len' limit count key key' block whole same_layout small few inside has others of same_len cells elsewhere there all within below =
     written_cells f names table' row known known' segment offset 1 len len' limit count key key' block whole same_layout small few (omega (arith, inside)) has others of same_len
-    (λ q low. ap untied (cells q (λ e. omega (arith, low, e)))) (λ q past. ap untied (cells q (λ e. omega (arith, past, e))))
+    (λ q low. ap untied_cell (cells q (λ e. omega (arith, low, e)))) (λ q past. ap untied_cell (cells q (λ e. omega (arith, past, e))))
     (λ q low. elsewhere q (λ e. omega (arith, low, e))) (λ q past. elsewhere q (λ e. omega (arith, past, e)))
     (λ i m low is. let here : offset ≡ offset + i = omega (arith, low) in let at : place_in f segment offset ≡ place_in f segment offset + i = omega (arith, low) in
     subst (λ (o : ℕ). IsMemberAt block o m) here (there m (ap (slice_get known') at ∙ is)))

@@ -12,7 +12,7 @@ use Rattle.seg_core.specs.Segment.{segment_start, segment_end, segment_count}
 use Rattle.seg_core.specs.Laws.{OnePlace}
 use Rattle.seg_core.proofs.Doubling.{one_segment}
 use Rattle.cell_core.specs.Block.{BlockView, IsMemberAt, KeepsOtherCells, block_len, cell_at}
-use Rattle.cell_core.specs.Fixed.{HasValueByStage, stage_in}
+use Rattle.cell_core.specs.Fixed.{HasValueByStage, stage_in, untied_cell}
 use Rattle.cell_core.specs.Slot.{Names}
 use Rattle.cell_core.specs.Member.{MemberView, HasNames}
 use Rattle.table_core.specs.Table.{KeyView, IsBlockOf}
@@ -20,7 +20,7 @@ use Rattle.grow_core.specs.Keys.{KeyRow, IsKeyAt, AreKeys, key_at, mark_of, layo
 use Rattle.grow_core.specs.Token.{PlacedView, place_in}
 use Rattle.grow_core.specs.Parts.{AreLong, AreMembers, AreWhole, HasFirstKeys, AreBrokenIn, IsBrokenIn, RestagesCell, member_stage, values_in}
 use Rattle.grow_core.specs.Vector.{VectorView, IsPlacedOf, layout_of}
-use Rattle.grow_core.specs.Closing.{AreSettled, IsClosing, IsKept, IsKeptOf, KeepsKnown, KeepsValuesBelow, untied}
+use Rattle.grow_core.specs.Closing.{AreSettled, IsClosing, IsKept, IsKeptOf, KeepsKnown, KeepsValuesBelow}
 use Rattle.grow_core.proofs.Places.{untied_at, value_at, pushed_there, pushed_elsewhere, within_length, kept_at, broken_more, broken_append, segment_below}
 use Rattle.grow_core.proofs.KeyRows.{none_is_none}
 
@@ -172,7 +172,7 @@ module _ {T : Type 0} (f : ℕ) (mark : List ℕ) (before : KeyRow) (names : Lis
 
   module _ (segment offset : ℕ) (old key : KeyView) (small : segment < 40) (first : segment < count) (has : key_at before segment ≡ Some old) (has' : key_at row segment ≡ Some key) (here : length known ≡ place_in f segment offset) where
     -- each cell from the next one on is the one that it was, except for its tie
-    pub same_cell_still : (i : ℕ) → untied (cell_at key.block (offset + i)) ≡ untied (cell_at old.block (offset + i))
+    pub same_cell_still : (i : ℕ) → untied_cell (cell_at key.block (offset + i)) ≡ untied_cell (cell_at old.block (offset + i))
     same_cell_still i = kept.later segment (offset + i) old key small has has' (let e = here in omega (arith, e))
 
     -- what was known of it is known still
@@ -187,7 +187,7 @@ module _ {T : Type 0} (f : ℕ) (mark : List ℕ) (before : KeyRow) (names : Lis
     -- the places of the next n cells are members; before these were settled their ties were fixed
     pub kept_settled : (names' : List ℕ) (key' : KeyView) (fixed settled : BlockView) (opened known' : List (MemberView T)) (epoch : Lft) (n : ℕ) → length row ≡ 40
         → place_in f segment offset + n ≤ segment_end f segment → ((j : ℕ) → j ≢ segment → slice_index names' j ≡ slice_index names j)
-        → ((q : ℕ) → untied (cell_at fixed q) ≡ untied (cell_at key.block q)) → AreSettled fixed settled offset opened (length known) known known' epoch n
+        → ((q : ℕ) → untied_cell (cell_at fixed q) ≡ untied_cell (cell_at key.block q)) → AreSettled fixed settled offset opened (length known) known known' epoch n
         → key'.block ≡ settled
         → IsKeptOf f mark before names' (slice_set row segment (Some key')) known' count
     kept_settled names' key' fixed settled opened known' epoch n rows inside others fixes run is_block =
@@ -217,8 +217,8 @@ module _ {T : Type 0} (f : ℕ) (mark : List ℕ) (before : KeyRow) (names : Lis
               let old_is : Some a ≡ Some old = sym at ∙ ap (key_at before) same ∙ has in let a_is : a ≡ old = (let z = old_is in cc) in
               let starts = ap (segment_start f) same in
               let far : offset + n ≤ o = omega (arith, starts, past, more, here) in
-              ap (λ (u : KeyView). untied (cell_at u.block o)) b_is ∙ ap (λ (u : BlockView). untied (cell_at u o)) is_block ∙ ap untied (run.after o far) ∙ fixes o
-              ∙ kept.later segment o old key small has has' (omega (arith, starts, past, more)) ∙ ap (λ (u : KeyView). untied (cell_at u.block o)) (sym a_is))
+              ap (λ (u : KeyView). untied_cell (cell_at u.block o)) b_is ∙ ap (λ (u : BlockView). untied_cell (cell_at u o)) is_block ∙ ap untied_cell (run.after o far) ∙ fixes o
+              ∙ kept.later segment o old key small has has' (omega (arith, starts, past, more)) ∙ ap (λ (u : KeyView). untied_cell (cell_at u.block o)) (sym a_is))
               (λ other. kept.later s o a b low at (sym (away s other) ∙ at') (omega (arith, past, more)));
           after = λ s low ge. others s (λ same. omega (arith, same, ge, first)) ∙ kept.after s low ge;
         }
@@ -306,7 +306,7 @@ closing_starts {T} f mark names opened before again row none epoch base limit fi
         long = long;
         there = there;
         of = λ s o k m low at inside is. absurd (gone (place_in f s o) m is);
-        later = λ s o a b low at at' past. let both : Some b ≡ Some a = sym at' ∙ twice s low ∙ at in let one : b ≡ a = (let z = both in cc) in ap (λ (u : KeyView). untied (cell_at u.block o)) one;
+        later = λ s o a b low at at' past. let both : Some b ≡ Some a = sym at' ∙ twice s low ∙ at in let one : b ≡ a = (let z = both in cc) in ap (λ (u : KeyView). untied_cell (cell_at u.block o)) one;
         after = λ s low ge. ap (λ (xs : List ℕ). slice_index (names_in xs) s) (sym same);
       };
       first = λ s o k m low at inside is.

@@ -7,7 +7,7 @@ use base.Fml.{Lft}
 use mathlib.Core.Logic.{dite}
 use native.Mathlib.Decide.{ℕ_discrete}
 use lib.Seq.{get_or-set_other}
-use Rattle.seg_core.specs.Segment.{segment_start, segment_end, segment_count}
+use Rattle.seg_core.specs.Segment.{segment_start, segment_end}
 use Rattle.tie_core.specs.Tie.{Tie, Stage, Idle, Filled, Broken}
 use Rattle.tie_core.specs.Tags.{TagView}
 use Rattle.claim_core.specs.Ties.{opened_stage, first_stages}
@@ -16,14 +16,12 @@ use Rattle.claim_core.specs.Word.{WordView}
 use Rattle.claim_core.specs.Gain.{EndsAt}
 use Rattle.claim_core.specs.Hand.{HandView, IsWholeHand}
 use Rattle.cell_core.specs.Block.{BlockView, IsMemberAt, block_len, cell_at}
-use Rattle.cell_core.specs.Fixed.{stage_in}
+use Rattle.cell_core.specs.Fixed.{stage_in, untied_cell}
 use Rattle.cell_core.specs.Member.{MemberView, KnowsCells}
-use Rattle.cell_core.specs.Slot.{cell_in}
-use Rattle.table_core.specs.Table.{TableView, KeyView, IsBlockOf, IsKeyOf, KeepsOtherBonds, KeepsOtherEntries}
-use Rattle.grow_core.specs.Closing.{untied}
+use Rattle.table_core.specs.Table.{TableView, KeyView, IsBlockOf, IsKeyOf, KeepsOtherBonds}
 use Rattle.grow_core.specs.Keys.{KeyRow, key_at}
 use Rattle.grow_core.specs.Opening.{IsOpening}
-use Rattle.grow_core.specs.Parts.{AreBrokenIn, AreWhole, IsBrokenIn, filled_in, member_stage, values_in}
+use Rattle.grow_core.specs.Parts.{AreBrokenIn, AreWhole, filled_in, member_stage, values_in}
 use Rattle.grow_core.specs.Ties.{TagRow, IsTagOf}
 use Rattle.grow_core.specs.Token.{place_in}
 use Rattle.grow_core.proofs.Entered.{cleared_whole, next_start, renewed_whole, tied_more}
@@ -130,7 +128,7 @@ module _ {T : Type 0} (word : WordView) (hand hand' : HandView) (table table' : 
 
   -- that of a segment of the list
   pub segment_tied : (key key' : KeyView) (block : BlockView) → segment < count → key_at keys segment ≡ Some key → IsKeyOf table' segment block key' → block_len block ≡ block_len key.block
-      → ((q : ℕ) → untied (cell_at block q) ≡ untied (cell_at key.block q)) → keys' ≡ slice_set keys segment (Some key') → IsOpening word hand' table' keys' known count cells tags' (segment + 1)
+      → ((q : ℕ) → untied_cell (cell_at block q) ≡ untied_cell (cell_at key.block q)) → keys' ≡ slice_set keys segment (Some key') → IsOpening word hand' table' keys' known count cells tags' (segment + 1)
   segment_tied key key' block less at of len names set =
       let whole = opening.whole in let few = whole.few in let small = whole.layout.0 in record {
         whole = subst (λ (r : KeyRow). AreWhole table'.layout table'.names r known word.base word.limit count) (sym set)

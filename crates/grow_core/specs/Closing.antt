@@ -11,7 +11,7 @@ use Rattle.claim_core.specs.Gain.{IsTiedTo}
 use Rattle.claim_core.specs.Word.{WordView}
 use Rattle.claim_core.specs.Hand.{HandView, hand_coded, IsWholeHand, seen_size}
 use Rattle.claim_core.specs.Plays.{ShowsAt, cell_stage}
-use Rattle.cell_core.specs.Fixed.{HasValueByStage, stage_in}
+use Rattle.cell_core.specs.Fixed.{HasValueByStage, stage_in, untied_cell}
 use Rattle.cell_core.specs.Slot.{Names}
 use Rattle.cell_core.specs.Mould.{mould_of, row_mould}
 use base.Fml.{Lft}
@@ -39,10 +39,6 @@ abbrev pub KeepsValues : {T : Type 0} → List (Option T) → List (Option T) �
 KeepsValues {T} old new =
     (place : ℕ) (x : T) → slice_get old place ≡ Some (Some x) → slice_get new place ≡ Some (Some x)
 
--- the same cell without its tie
-abbrev pub untied : Names → Names
-untied γ = record γ { tied = None }
-
 -- what is kept of a vector whose segments had this mark: the keys of its first `count` segments, as they were
 -- before. The names of the values are those of the cells there; each cell after the known ones is unchanged
 -- except for its tie, and so is each segment after the first ones
@@ -58,7 +54,7 @@ pub record IsKeptOf {T : Type 0} (f : ℕ) (mark : List ℕ) (before : KeyRow) (
       → m.name ≡ (cell_at key.block offset).value_name
   pub later : (segment offset : ℕ) (old new : KeyView) → segment < most_segments → key_at before segment ≡ Some old
       → key_at row segment ≡ Some new
-      → length known ≤ place_in f segment offset → untied (cell_at new.block offset) ≡ untied (cell_at old.block offset)
+      → length known ≤ place_in f segment offset → untied_cell (cell_at new.block offset) ≡ untied_cell (cell_at old.block offset)
   pub after : (segment : ℕ) → segment < most_segments → count ≤ segment
       → slice_index names segment ≡ slice_index (names_in mark) segment
 
@@ -220,7 +216,7 @@ pub record IsStillOpen {T : Type 0} (word : WordView) (hand : HandView) (cells :
 -- each cell of a segment is fixed at a stage, and has its names except for the tie
 pub record AreFixed (old new : BlockView) : Type 0 where
   pub len : block_len new ≡ block_len old
-  pub cells : (q : ℕ) → untied (cell_at new q) ≡ untied (cell_at old q)
+  pub cells : (q : ℕ) → untied_cell (cell_at new q) ≡ untied_cell (cell_at old q)
   pub fixed : (q : ℕ) → q < block_len new → (stage : Stage) × (stage_in (cell_at new q) ≡ Some stage)
 
 -- and the history of the hand shows the place as a cell at this stage is

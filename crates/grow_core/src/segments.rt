@@ -1,7 +1,7 @@
 // How a hand finds the segments of its places, or installs them. A look at an entry, and its exchange, run a visit of the
 // hand's seat, and the hand learns where the cells of the segment are.
 ghost use Rattle.std.specs.Prelude.{◌≡◌, ◌≤◌, ◌<◌, ◌+◌, [], ◌∷◌, IfOk, IfSome, IfNone, IsSome};
-ghost use Rattle.seg_core.specs.Segment.{HasPlace, most_places, segment_count, segment_end, segment_start};
+ghost use Rattle.seg_core.specs.Segment.{HasPlace, most_places, segment_count, segment_start};
 ghost use Rattle.tie_core.specs.Tags.{tag_of};
 ghost use Rattle.claim_core.specs.Hand.{IsWholeHand, seen_size};
 ghost use Rattle.claim_core.specs.Plays.{block_view};

@@ -1,5 +1,5 @@
 //! A list as a vector of its values.
-ghost use Rattle.std.specs.Prelude.{◌≡◌, ◌↔◌, Some, None, MatchOption, IfOk, IfErr, map};
+ghost use Rattle.std.specs.Prelude.{◌≡◌, Some, None, MatchOption, IfOk, IfErr, map};
 ghost use Rattle.grow_core.specs.PopSegment.{IsUnbroken};
 ghost use Rattle.quiet_core.specs.IntoVec.{IsFirstBroken, IsDueFor};
 

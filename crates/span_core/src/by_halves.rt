@@ -1,5 +1,5 @@
 //! Work of a range of workers, each in a thread of its own, started by halves.
-ghost use Rattle.std.specs.Prelude.{◌≡◌, ℕ, ◌+◌, ◌^◌, ◌<◌, IfOk, IfErr};
+ghost use Rattle.std.specs.Prelude.{ℕ, ◌+◌, ◌^◌, ◌<◌, IfOk, IfErr};
 
 use std::marker::PhantomData;
 use std::snapshot::Snapshot;

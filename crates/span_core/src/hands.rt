@@ -1,5 +1,5 @@
 //! Workers on one shared vector, each with a hand of its own.
-ghost use Rattle.std.specs.Prelude.{◌≡◌, ◌+◌, ◌<◌, ◌≤◌, [], ◌∷◌, Ok, Err, IfOk, IfErr};
+ghost use Rattle.std.specs.Prelude.{◌≡◌, ◌+◌, ◌<◌, [], ◌∷◌, Ok, Err, IfOk, IfErr};
 ghost use mathlib.Core.List.{IsPrefix};
 ghost use Rattle.grow_core.specs.Vector.{IsHandOf};
 ghost use Rattle.span_core.specs.Hands.{AreCallable, HaveAnswered, IsOfHands, KeepHands, Leaves, of_answer};
@@ -39,7 +39,7 @@ impl<
     F: Fn(&Shared<T>, u32, &mut Hand<T>) -> Result<A, E>,
     G: Gate,
 > ForkJoin<Hand<T>, Left<T, A, E>, Never> for HandWorkers<'a, T, F, G> {
-    ghost use Rattle.std.specs.Prelude.{◌≡◌, ◌+◌, ◌<◌, ◌≤◌, [], IfOk, IfErr};
+    ghost use Rattle.std.specs.Prelude.{◌≡◌, ◌+◌, ◌<◌, [], IfOk, IfErr};
     ghost use Rattle.span_core.specs.Hands.{BringsHand, LeavesHand};
 
     // The hand has a share for each worker.

@@ -247,8 +247,6 @@ cast_lent tied f lent entries k e x are some near is long =
     fits_loose (bond_of e) x (length_of e) (loose_read tied f lent entries k e are some near is) long
 
 -- what follows for a table once an entry is replaced, is set to a block, or is tied; and once a block is lent or comes back
-pub ruleset attached_plain = (names_kept, name_there, bonds_kept, bond_there, untied_there, plain_untied, plain_soft, kind_soft_set)
-
 pub ruleset attached_placed = (names_kept, name_there, bonds_kept)
 
 pub ruleset replaced = (names_kept, renamed_there, bonds_kept, bond_replaced, untied_replaced, soft_renamed, kind_replaced)

@@ -114,9 +114,7 @@ plain_at f entries k table same bonds near fit plain less =
     let long : IsLengthOf f k (length_of e) = subst (λ (x : EntryView). IsLengthOf f k (length_of x)) (is e) (fit k e less) in
     plain_now table k e there (subst IsPlainEntry (is e) (plain k e less)) (subst (λ (g : ℕ). IsLengthOf g k (length_of e)) (sym same) long)
 
--- what follows when a plain block is set, when a plain entry is put in the place of one, and when it has its block
+-- what follows when a plain block is set, and when a plain entry is put in the place of one
 pub ruleset setting = (plain_there, found_plain)
 
 pub ruleset renewed_plain = (plain_untied, plain_soft, plain_now)
-
-pub ruleset attaching = (mould_plain, plain_now)

@@ -8,7 +8,6 @@ ghost use Rattle.table_core.specs.Entry.{IsPlainEntry, bond_of, length_of};
 mod key;
 mod key_set;
 mod owner;
-mod plain;
 mod tied;
 
 use crate::entry::{Entry, EntrySight, Measured};

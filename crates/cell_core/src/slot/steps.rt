@@ -1,6 +1,6 @@
 // The raw steps on one cell, each a few lines around one atomic step on the word that holds the cell's state.
 ghost use Rattle.std.specs.Prelude.{Bool, true, false, ◌≡◌, ◌≢◌, ℕ, ◌+◌, ◌*◌, ◌-◌, ◌^◌, ◌<◌, [], ◌∷◌, Option, Some, None};
-ghost use base.Fml.{ftrue, ffalse};
+ghost use base.Fml.{ftrue};
 ghost use base.Stored.{coded_bool};
 ghost use denote.Sharing.{said};
 ghost use Rattle.std.specs.Coded.{coded_option};

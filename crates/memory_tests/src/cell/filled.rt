@@ -1,5 +1,5 @@
 // Filled cells next to each other, as one load for each word shows them.
-ghost use Rattle.std.specs.Prelude.{◌≡◌, ◌+◌, ◌<◌, ◌≤◌};
+ghost use Rattle.std.specs.Prelude.{◌+◌, ◌<◌, ◌≤◌};
 ghost use Rattle.cell_core.specs.Block.{block_len};
 
 use crate::cell::block::{is_filled, made};

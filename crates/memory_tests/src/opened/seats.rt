@@ -1,5 +1,5 @@
 //! The seats of a list's cells and of its block, and how a hand finds the cells by the table.
-ghost use Rattle.std.specs.Prelude.{◌≡◌, ◌+◌, ◌<◌, ◌≤◌, ◌∷◌, length, Some, None, IfSome};
+ghost use Rattle.std.specs.Prelude.{◌≡◌, ◌+◌, ◌<◌, ◌≤◌, length, Some, None, IfSome};
 ghost use Rattle.cell_core.specs.Block.{block_len};
 ghost use Rattle.cell_core.specs.Member.{KnowsCells};
 ghost use Rattle.cell_core.specs.Slot.{AreTied};

@@ -8,7 +8,7 @@ ghost use Rattle.std.specs.Sync.Atomic.Pointer.{atomic_ptr_value, atomic_ptr_hol
 ghost use Rattle.std.specs.declared.option.Option.{Option};
 ghost use Rattle.std.specs.declared.option.Option.TheVariants.{None, Some};
 ghost use Rattle.tie_core.specs.Tie.{Tie};
-ghost use Rattle.table_core.specs.Entry.{EntryView, FitsEntry, IsCast, IsPlainEntry, entry_coded, noted, Agrees, bond_of, length_of, name_of, tie_of, mould_at, plain_mould};
+ghost use Rattle.table_core.specs.Entry.{EntryView, FitsEntry, IsCast, IsPlainEntry, entry_coded, noted, Agrees, bond_of, length_of, name_of, tie_of, mould_at};
 ghost use Rattle.table_core.specs.TiedEntry.{entry_owned, entry_shared};
 
 mod tied;
@@ -183,22 +183,6 @@ impl<B: Measured> Entry<B> {
         (Entry { word, alloc }, sight)
     }
 
-    // The same, for a block whose cells are not tied.
-    fn full_plain(word: AtomicPtr<B>, block: Loose<B, Global>) -> (Entry<B>, EntrySight<B>)
-        requires { (atomic_ptr_value word ≡ block.at)
-            × (B.mould block.value ≡ plain_mould (B.measure block.value)) }
-        ensures length { length_of result.0 ≡ B.measure block.value }
-        ensures plain { IsPlainEntry result.0 }
-        ensures of { result.1.of ≡ name_of result.0 }
-        ensures known { result.1.known ≡ Some block.value }
-    {
-        let Loose { at: _, alloc } = block;
-        let sight = EntrySight {
-            marker: PhantomData,
-        };
-        (Entry { word, alloc }, sight)
-    }
-
     // The block of an entry that is owned whole, if it is set: for a sight that knows a block, that one.
     fn into_loose(self, sight: &EntrySight<B>) -> Option<Loose<B, Global>>
         requires { sight.now.of ≡ name_of self }
@@ -253,18 +237,6 @@ impl<B: Measured + Drop> Entry<B> {
     {
         let (at, block) = Entry::pointer(Loose::of(block));
         Entry::full(AtomicPtr::new(at), block)
-    }
-
-    // The same, for a block whose cells are not tied.
-    pub(crate) fn filled_plain(block: Box<B>) -> (Entry<B>, EntrySight<B>)
-        requires { B.mould block.value ≡ plain_mould (B.measure block.value) }
-        ensures length { length_of result.0 ≡ B.measure block.value }
-        ensures plain { IsPlainEntry result.0 }
-        ensures of { result.1.of ≡ name_of result.0 }
-        ensures known { result.1.known ≡ Some block.value }
-    {
-        let (at, block) = Entry::pointer(Loose::of(block));
-        Entry::full_plain(AtomicPtr::new(at), block)
     }
 
     // Takes the block out of an entry that the caller has whole: the sight's block, if it knows one.

@@ -1,6 +1,6 @@
 // One legal history of three threads that push, grow, fail a construction and read; a token that a reader sends to another; and a
 // refused construction beside another's place. All by the public clauses alone.
-ghost use Rattle.std.specs.Prelude.{◌≡◌, ℕ, ◌+◌, IfErr, IfOk, IfSome, IsOk, IsSome};
+ghost use Rattle.std.specs.Prelude.{◌≡◌, ◌+◌, IfErr, IfOk, IfSome, IsOk, IsSome};
 ghost use Rattle.std.specs.Thread.{IsSync};
 ghost use Rattle.seg_core.specs.Segment.{IsLimit};
 ghost use Rattle.claim_core.specs.Shares.{all_shares};

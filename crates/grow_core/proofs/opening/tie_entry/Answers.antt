@@ -1,4 +1,4 @@
-use Rattle.std.proofs.Common.{◌≡◌, ℕ, ◌+◌, ◌≤◌, sym, ap, ◌∙◌, subst, arith}
+use Rattle.std.proofs.Common.{◌≡◌, ℕ, sym, ap, ◌∙◌, subst, arith}
 use Rattle.seg_core.specs.Segment.{segment_start}
 use Rattle.tie_core.specs.Tags.{TagView, tag_of}
 use Rattle.tie_core.specs.Visit.{EntryTie}

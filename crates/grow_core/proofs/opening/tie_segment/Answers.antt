@@ -1,19 +1,17 @@
-use Rattle.std.proofs.Common.{◌≡◌, ◌≢◌, ℕ, ◌+◌, ◌<◌, List, sym, ap, ◌∙◌, subst, arith}
-use Rattle.std.specs.Prelude.{Bool, Some, length, slice_index}
+use Rattle.std.proofs.Common.{◌≡◌, ℕ, ◌+◌, ◌<◌, sym, ap, ◌∙◌, subst, arith}
+use Rattle.std.specs.Prelude.{Some}
 use Rattle.seg_core.specs.Segment.{segment_start, segment_end, segment_count}
 use Rattle.tie_core.specs.Tie.{Tie, row_of}
 use Rattle.tie_core.specs.Tags.{TagView, tag_of}
 use Rattle.tie_core.specs.Visit.{EntryTie}
-use Rattle.claim_core.specs.Gain.{EndsAt}
 use Rattle.cell_core.specs.Block.{BlockView, block_len, cell_at}
 use Rattle.cell_core.specs.Mould.{last_seat, mould_of, row_mould}
-use Rattle.cell_core.specs.Slot.{AreTied, cell_in}
-use Rattle.cell_core.specs.Fixed.{stage_in}
-use Rattle.table_core.specs.Table.{IsBlockOf, IsKeyOf, IsTiedBy, IsLengthOf}
-use Rattle.grow_core.specs.Closing.{untied}
+use Rattle.cell_core.specs.Slot.{AreTied}
+use Rattle.cell_core.specs.Fixed.{stage_in, untied_cell}
+use Rattle.table_core.specs.Table.{IsBlockOf, IsTiedBy, IsLengthOf}
 use Rattle.grow_core.specs.Keys.{key_at}
 use Rattle.grow_core.proofs.Entries.{rises}
-use Rattle.grow_core.proofs.TiedSegments.{cells_broken, cells_fixed, cells_known, segment_tied}
+use Rattle.grow_core.proofs.TiedSegments.{cells_broken, cells_fixed, segment_tied}
 use Rattle.grow_core.proofs.opening.tie_segment.Goals as goal
 
 pub tie_now-requires-clause-fixed : goal.tie_now-requires-clause-fixed
@@ -87,4 +85,4 @@ returns-clause-opening g c =
       n = subst (λ (u : ℕ × ℕ). IsLengthOf u.0 c.args.segment u.1) (λ i. (sym layout i, sym entry.3 i)) long;
     })
     c.push.ensures key c.attach_placed.result block less at c.attach_placed.ensures.key
-    (c.tie_now.ensures.len ∙ ap block_len same) (λ q. c.tie_now.ensures.names q ∙ ap (λ (b : BlockView). untied (cell_at b q)) same) c.set.ensures.set
+    (c.tie_now.ensures.len ∙ ap block_len same) (λ q. c.tie_now.ensures.names q ∙ ap (λ (b : BlockView). untied_cell (cell_at b q)) same) c.set.ensures.set

@@ -1,4 +1,4 @@
-use Rattle.std.proofs.Common.{sym, subst, length}
+use Rattle.std.proofs.Common.{sym, subst}
 use Rattle.caller_core.specs.Caller.{CallerView}
 use Rattle.claim_core.specs.declared.run.Run.{Run}
 use Rattle.grow_core.specs.Logs.{AllFilled, LogsGrowth}

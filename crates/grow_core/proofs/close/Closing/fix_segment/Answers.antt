@@ -4,13 +4,13 @@ use Rattle.std.specs.Prelude.{Some, slice_get, slice_index}
 use Rattle.seg_core.specs.Segment.{segment_start, segment_count}
 use Rattle.claim_core.specs.Hand.{HandView}
 use Rattle.cell_core.specs.Block.{BlockView, block_len, cell_at}
-use Rattle.cell_core.specs.Fixed.{stage_in}
+use Rattle.cell_core.specs.Fixed.{stage_in, untied_cell}
 use Rattle.cell_core.specs.Member.{MemberView}
 use Rattle.table_core.specs.Table.{KeyView, IsKeyOf}
 use Rattle.grow_core.specs.Keys.{KeyRow, key_at}
 use Rattle.grow_core.specs.Token.{place_in}
 use Rattle.grow_core.specs.Parts.{AreMembers, AreWhole, member_stage, values_in}
-use Rattle.grow_core.specs.Closing.{AreFixed, AreToldBy, ClosingView, IsKeptOf, IsStillOpen, IsTiedByCells, untied}
+use Rattle.grow_core.specs.Closing.{AreFixed, AreToldBy, ClosingView, IsKeptOf, IsStillOpen, IsTiedByCells}
 use Rattle.grow_core.specs.Ties.{KnowsRow}
 use Rattle.grow_core.proofs.Closed.{idle_cells, kept_again, still_more}
 use Rattle.grow_core.proofs.Places.{written_cells}
@@ -70,7 +70,7 @@ invariant_of-self g c =
         broken = inv.broken;
         kept = subst (λ (u : ℕ × KeyRow). IsKeptOf u.0 inside.mark.numbers inside.before table'.names u.1 known inside.count) (λ i. (sym same_layout i, sym put.2 i))
             (kept_again f inside.mark.numbers inside.before names table'.names row known inside.count segment key key' inv.kept whole.rows small first has others
-            (λ q. ap (λ (b : BlockView). untied (cell_at b q)) of.of ∙ fixed.cells q));
+            (λ q. ap (λ (b : BlockView). untied_cell (cell_at b q)) of.of ∙ fixed.cells q));
         first = subst (λ (l : ℕ). AreMembers l inside.before inside.opened) (sym same_layout) inv.first;
         inside = inv.inside;
         values = inv.values;

@@ -5,13 +5,13 @@ use Rattle.seg_core.specs.Segment.{segment_start, segment_end, HasPlace}
 use Rattle.seg_core.proofs.Doubling.{one_segment}
 use Rattle.claim_core.specs.Hand.{HandView}
 use Rattle.cell_core.specs.Block.{BlockView, IsMemberAt, block_len, cell_at}
-use Rattle.cell_core.specs.Fixed.{stage_in}
+use Rattle.cell_core.specs.Fixed.{stage_in, untied_cell}
 use Rattle.cell_core.specs.Member.{MemberView}
 use Rattle.table_core.specs.Table.{KeyView, IsKeyOf}
 use Rattle.grow_core.specs.Keys.{KeyRow, key_at}
 use Rattle.grow_core.specs.Token.{place_in}
 use Rattle.grow_core.specs.Parts.{AreMembers, AreWhole, member_stage, values_in}
-use Rattle.grow_core.specs.Closing.{AreFixed, AreSettled, AreToldBy, ClosingView, IsKeptOf, IsListSoFar, IsStillOpen, IsTiedByCells, KeepsValuesBelow, untied}
+use Rattle.grow_core.specs.Closing.{AreFixed, AreSettled, AreToldBy, ClosingView, IsKeptOf, IsListSoFar, IsStillOpen, IsTiedByCells, KeepsValuesBelow}
 use Rattle.grow_core.specs.Ties.{KnowsRow}
 use Rattle.grow_core.proofs.Broken.{few_in_all}
 use Rattle.grow_core.proofs.Closed.{closed_cells, list_more, still_more}
@@ -136,7 +136,7 @@ invariant_of-self g c =
         whole = subst (λ (r : KeyRow). AreWhole table'.layout table'.names r known' end inside.limit inside.count) (sym put.2) (written_cells f names table' row known known' segment offset n len end inside.limit inside.count key key' b2 whole same_layout small taken.ensures.segment within has others of
             (run.len ∙ fixed.len)
             (λ q low. absurd (omega (arith, low, zero_off)))
-            (λ q past. ap untied (run.after q past) ∙ fixed.cells q)
+            (λ q past. ap untied_cell (run.after q past) ∙ fixed.cells q)
             (λ q low. settled_before b1 b2 offset inside.opened (length known) known known' inside.epoch n run q (omega (arith, low, here)))
             (λ q past. let far : length known' ≤ q = omega (arith, past, all', reach, at_len) in nothing_past known' q far ∙ sym (nothing_past known q (omega (arith, past, here))))
             (λ i m low is. run.members i m (sym (settled_there b1 b2 offset inside.opened (length known) known known' inside.epoch n run i) ∙ ap (slice_get known') (let e : length known + i ≡ place_in f segment offset + i = omega (arith, here) in e) ∙ is))

@@ -1,4 +1,4 @@
-use Rattle.std.proofs.Common.{ℕ, ◌≡◌, ◌<◌, ◌∙◌, sym, subst, arith}
+use Rattle.std.proofs.Common.{ℕ, ◌<◌, sym, subst, arith}
 use Rattle.seg_core.specs.Segment.{segment_count}
 use Rattle.tie_core.specs.Tags.{tag_of}
 use Rattle.grow_core.specs.Ties.{IsTagOf}

@@ -1,5 +1,5 @@
-use Rattle.std.proofs.Common.{Some, rules, ◌≡◌, ◌<◌, ℕ, List, sym, ap, ◌∙◌, subst, arith}
-use Rattle.seg_core.specs.Segment.{segment_end, segment_start}
+use Rattle.std.proofs.Common.{◌≡◌, ◌<◌, ℕ, List, sym, ap, ◌∙◌, subst, arith}
+use Rattle.seg_core.specs.Segment.{segment_end}
 use Rattle.claim_core.specs.Hand.{HandView}
 use Rattle.claim_core.specs.History.{Log, Adds}
 use Rattle.cell_core.specs.Block.{BlockView, block_len}

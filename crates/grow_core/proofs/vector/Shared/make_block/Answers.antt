@@ -1,5 +1,5 @@
-use Rattle.std.proofs.Common.{◌≡◌, ℕ, ◌+◌, ◌≤◌, ◌<◌, [], ◌∷◌, sym, ap, ◌∙◌, subst, arith}
-use Rattle.seg_core.specs.Segment.{segment_start, segment_count}
+use Rattle.std.proofs.Common.{◌≡◌, ℕ, ◌+◌, ◌<◌, [], ◌∷◌, sym, ap, ◌∙◌, subst, arith}
+use Rattle.seg_core.specs.Segment.{segment_count}
 use Rattle.tie_core.specs.Tie.{Tie, row_of}
 use Rattle.claim_core.specs.Plays.{block_view}
 use Rattle.cell_core.specs.Block.{BlockView, block_len}

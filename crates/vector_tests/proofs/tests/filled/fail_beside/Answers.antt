@@ -1,4 +1,4 @@
-use Rattle.std.proofs.Common.{rules, ◌≡◌, ℕ, subst, sym}
+use Rattle.std.proofs.Common.{rules, ℕ, subst, sym}
 use Rattle.std.specs.Prelude.{IfSome}
 use mathlib.Core.List.{IsPrefix}
 use Rattle.claim_core.specs.Hand.{HandView, OwnsRun}

@@ -1,13 +1,12 @@
 //! Lists of numbers, and vectors that begin with one.
 ghost use Rattle.std.specs.Prelude.{IfSome, IfOk};
-ghost use Rattle.seg_core.specs.Segment.{IsLimit};
 ghost use Rattle.claim_core.specs.Hand.{IsWholeHand};
 ghost use Rattle.grow_core.specs.Vector.{IsHandOf};
 
 use anyhow::{Result, bail};
 use grow_core::{Hand, Parts, Shared};
 use seg_core::{Layout, MOST_PLACES};
-use std::alloc::{AllocError, Global};
+use std::alloc::Global;
 
 // Appends numbers to a list that has room for them, up to its limit.
 fn append_all(parts: &mut Parts<u64>) {
@@ -28,9 +27,10 @@ fn cut(parts: &mut Parts<u64>, len: u64) {
 }
 
 /// Makes a list of numbers that is as long as its limit.
-pub fn fill_list(alloc: Global, layout: Layout, limit: u64) -> Result<Parts<u64>, AllocError>
-    requires limit { IsLimit limit }
-{
+pub fn fill_list(alloc: Global, layout: Layout, limit: u64) -> Result<Parts<u64>> {
+    if limit == 0 || limit > MOST_PLACES {
+        bail!("no list has this limit")
+    }
     let mut parts = Parts::new_in(alloc, layout, limit);
     parts.room(limit)?;
     append_all(&mut parts);
@@ -55,9 +55,6 @@ pub fn open_cut(
 ) -> Result<(Shared<u64>, Hand<u64>)>
     ensures hand { IfOk result (λ (vector, hand). IsHandOf vector hand × IsWholeHand hand) }
 {
-    if limit == 0 || limit > MOST_PLACES {
-        bail!("no vector has this limit")
-    }
     let mut parts = fill_list(alloc, layout, limit)?;
     cut(&mut parts, len);
     let Some(opened) = open_list(parts) else {

@@ -1,5 +1,5 @@
-//! How long it takes to open a list of ten million values as a shared vector, to close it into a list again, and to
-//! move the values out of that.
+//! How long it takes to open a list of values as a shared vector, to close it into a list again, and to move the
+//! values out of that.
 ghost use Rattle.claim_core.specs.Hand.{IsWholeHand};
 ghost use Rattle.grow_core.specs.Vector.{IsHandOf};
 
@@ -14,11 +14,14 @@ use std::io;
 use std::rt::Clock;
 use std::time::{Duration, Instant};
 
-const VALUES: u64 = 10_000_000;
+/// The values of a list, unless a number is given.
+pub const LISTED: u64 = 10_000_000;
 
 /// What is timed.
 #[derive(Clone, Copy)]
 pub enum Turn {
+    /// The list is dropped.
+    Discard,
     /// The list is opened.
     Open,
     /// The vector is closed.
@@ -39,9 +42,16 @@ fn check_open(is_open: bool) -> Result<()> {
 }
 
 // Reports that a list has too few values.
-fn check_size(size: u64) -> Result<()> {
-    ensure!(size == VALUES, "values were lost");
+fn check_size(size: u64, values: u64) -> Result<()> {
+    ensure!(size == values, "values were lost");
     Ok(())
+}
+
+// How long the list takes to be dropped.
+fn time_discard<R: Clock>(rt: &R, parts: Parts<u64>) -> Result<Duration> {
+    let start = Instant::now(rt);
+    drop(parts);
+    time_since(rt, start)
 }
 
 // How long the list takes to be opened.
@@ -55,7 +65,12 @@ fn time_open<R: Clock>(rt: &R, parts: Parts<u64>) -> Result<Duration> {
 }
 
 // How long the vector takes to be closed.
-fn time_close<R: Clock>(rt: &R, vector: Shared<u64>, hand: Hand<u64>) -> Result<Duration>
+fn time_close<R: Clock>(
+    rt: &R,
+    vector: Shared<u64>,
+    hand: Hand<u64>,
+    values: u64,
+) -> Result<Duration>
     requires ours { IsHandOf vector hand }
     requires whole { IsWholeHand hand }
 {
@@ -64,53 +79,61 @@ fn time_close<R: Clock>(rt: &R, vector: Shared<u64>, hand: Hand<u64>) -> Result<
     let took = time_since(rt, start);
     let size = parts.len();
     drop(parts);
-    check_size(size).and(took)
+    check_size(size, values).and(took)
 }
 
 // Reports what a vector lacks that was moved into a `Vec`.
-fn check_values(values: &Option<Vec<u64>>) -> Result<()> {
-    let Some(values) = values else {
+fn check_values(moved: &Option<Vec<u64>>, values: u64) -> Result<()> {
+    let Some(moved) = moved else {
         bail!("no vector")
     };
-    check_size(values.len() as u64)
+    check_size(moved.len() as u64, values)
 }
 
 // How long the vector takes to be closed and moved into a `Vec`.
-fn time_into_vec<R: Clock>(rt: &R, vector: Shared<u64>, hand: Hand<u64>) -> Result<Duration>
+fn time_into_vec<R: Clock>(
+    rt: &R,
+    vector: Shared<u64>,
+    hand: Hand<u64>,
+    values: u64,
+) -> Result<Duration>
     requires ours { IsHandOf vector hand }
     requires whole { IsWholeHand hand }
 {
     let start = Instant::now(rt);
-    let values = Quiet::close(vector, hand).into_vec().ok();
+    let moved = Quiet::close(vector, hand).into_vec().ok();
     let took = time_since(rt, start);
-    let checked = check_values(&values);
-    drop(values);
+    let checked = check_values(&moved, values);
+    drop(moved);
     checked.and(took)
 }
 
 // How long a vector of the list takes to be closed, by one of these.
 fn time_closing<R: Clock>(rt: &R, parts: Parts<u64>, into_vec: bool) -> Result<Duration> {
+    let values = parts.len();
     let Some((vector, hand)) = open_list(parts) else {
         bail!("no memory")
     };
     if into_vec {
-        time_into_vec(rt, vector, hand)
+        time_into_vec(rt, vector, hand, values)
     } else {
-        time_close(rt, vector, hand)
+        time_close(rt, vector, hand, values)
     }
 }
 
-// How long it took to open the list, or then to close the vector.
+// How long it took to drop the list, to open it, or then to close the vector.
 fn time_turn<R: Clock>(rt: &R, parts: Parts<u64>, turn: Turn) -> Result<Duration> {
     match turn {
+        Turn::Discard => time_discard(rt, parts),
         Turn::Open => time_open(rt, parts),
         Turn::Close => time_closing(rt, parts, false),
         Turn::IntoVec => time_closing(rt, parts, true),
     }
 }
 
-/// Opens a list and closes it, and prints the nanoseconds that this turn took.
-pub fn print_turn<R: Clock + Print + AllocGlobal>(rt: &R, turn: Turn) -> Result<()> {
-    let took = time_turn(rt, fill_list(rt.alloc(), Layout::default(), VALUES)?, turn)?;
+/// Fills a list of this many values, opens and closes it as far as is timed, and prints the nanoseconds that this turn
+/// took.
+pub fn print_turn<R: Clock + Print + AllocGlobal>(rt: &R, turn: Turn, values: u64) -> Result<()> {
+    let took = time_turn(rt, fill_list(rt.alloc(), Layout::default(), values)?, turn)?;
     print_nanoseconds(rt, took)
 }

@@ -4,8 +4,8 @@
 //! - Without an argument it runs each operation shortly and prints that all of its wins were counted: the
 //!   same whatever the machine does. With the argument `figures` it measures for some seconds and prints
 //!   times.
-//! - With `load NAME THREADS` it runs one load, and with `count NAME VALUES` a short one on a small vector, for a
-//!   tool that counts its instructions.
+//! - With `load NAME THREADS` it runs one load, and with `count NAME VALUES` a short one on a small vector, or a turn
+//!   in the life of a list of this many values, for a tool that counts its instructions.
 //! - With `stress SECONDS` threads make random calls on shared vectors, and the results are compared.
 //! - Each measured operation has a file of its own with one function that runs its tries in threads and
 //!   returns a `Trial`.
@@ -38,7 +38,7 @@ mod writers;
 use crate::boxcar_loads::{print_boxcar_reads, print_boxcar_time};
 use crate::figures::print_figures;
 use crate::hundreds::print_hundreds;
-use crate::lives::{Turn, print_turn};
+use crate::lives::{LISTED, Turn, print_turn};
 use crate::loads::{layout_of, load_of};
 use crate::operation::{GROUPS, Group, Operation};
 use crate::pushed_walk::print_pushed_walk;
@@ -128,6 +128,17 @@ fn task_of(words: &[String]) -> Result<Task<'_>> {
     }
 }
 
+// The turn in the life of a list that has this name.
+fn turn_of(name: &str) -> Option<Turn> {
+    match name {
+        "discard" => Some(Turn::Discard),
+        "open" => Some(Turn::Open),
+        "close" => Some(Turn::Close),
+        "into-vec" => Some(Turn::IntoVec),
+        _ => None,
+    }
+}
+
 // Prints the nanoseconds that the load took, with this many values if a number is given.
 fn print_load<R: Threads + Wait + Clock + Print + AllocGlobal + Sync>(
     rt: &R,
@@ -135,6 +146,9 @@ fn print_load<R: Threads + Wait + Clock + Print + AllocGlobal + Sync>(
     threads: usize,
     values: Option<u64>,
 ) -> Result<()> {
+    if let Some(turn) = turn_of(name) {
+        return print_turn(rt, turn, values.unwrap_or(LISTED));
+    }
     if let Some(values) = values {
         return load_of(name)?.with_values(values).print_time(rt, threads);
     }
@@ -142,9 +156,6 @@ fn print_load<R: Threads + Wait + Clock + Print + AllocGlobal + Sync>(
         "boxcar" => print_boxcar_time(rt, threads),
         "boxcar-at" => print_boxcar_reads(rt, threads),
         "hundreds" | "hundreds-256" => print_hundreds(rt, layout_of(name)),
-        "open" => print_turn(rt, Turn::Open),
-        "close" => print_turn(rt, Turn::Close),
-        "into-vec" => print_turn(rt, Turn::IntoVec),
         "walk-pushed" => print_pushed_walk(rt, threads),
         _ => load_of(name)?.print_time(rt, threads),
     }

@@ -5,6 +5,7 @@ use Rattle.std.proofs.lemmas.List.{length-replicate}
 use Rattle.claim_core.specs.Hand.{IsWholeHand, seen_size}
 use Rattle.grow_core.specs.declared.errors.GrowError.{GrowError}
 use Rattle.grow_core.specs.declared.errors.GrowError.TheVariants as grow
+use Rattle.grow_core.specs.declared.errors.Never.{Never}
 use Rattle.grow_core.specs.declared.errors.AtError.{AtError}
 use Rattle.grow_core.specs.declared.errors.AtError.TheVariants as at
 use Rattle.grow_core.specs.declared.errors.MendError.{MendError}
@@ -28,8 +29,8 @@ use Rattle.handle_core.specs.Outcomes.{growth_status, read_status, mend_status, 
 use Rattle.handle_core.specs.Calls.{GrowthDue, ReachDue, RoomDue, ReadDue, MendDue, CloseDue, ReachesSize}
 use Rattle.handle_core.specs.Lists.{MemberDue}
 
--- a growth that has no room, or was overtaken
-pub growth_due : {T V E : Type 0} (n : ℕ) (bad_size : Type 0) (given : V) (old new : CallerView T) (refused : GrowError T V E)
+-- a growth that has no room, or was overtaken; a maker that never refuses is no cause
+pub growth_due : {T V : Type 0} (n : ℕ) (bad_size : Type 0) (given : V) (old new : CallerView T) (refused : GrowError T V Never)
     → KeepsCaller old new → Refuses old.vector n given old.hand new.hand refused
     → GrowthDue n bad_size T new (growth_status refused)
 growth_due n bad_size given old new (grow.NoMemory back) kept r = tt
@@ -37,8 +38,8 @@ growth_due n bad_size given old new (grow.Full size back) kept r =
     subst (λ v. limit_of v < seen_size new.hand + n) (sym kept.vector)
     (subst (λ s. limit_of old.vector < s + n) (sym r.left.ends) r.due)
 growth_due n bad_size given old new (grow.Moved size back) kept r = λ whole. r.due.others (sym kept.shares ∙ whole)
-growth_due n bad_size given old new (grow.Refused run made cause) kept r = tt
-growth_due n bad_size given old new (grow.Taken place found) kept r = tt
+growth_due n bad_size given old new (grow.Refused run made cause) kept r = elim cause [ ]
+growth_due n bad_size given old new (grow.Taken place found) kept r = absurd r.due
 
 -- what is due of a growth whose words make elements is due of it whether they do or not
 pub due_of_good : {T : Type 0} (n : ℕ) (bad_size : Type 0) (caller : CallerView T) (why : Status)
@@ -59,15 +60,15 @@ due_of_good n bad_size caller status.Filled due = due
 due_of_good n bad_size caller status.OtherVector due = due
 
 -- a growth up to a size that is above the limit
-pub reach_due : {T V E : Type 0} (size : ℕ) (bad_size : Type 0) (old new : CallerView T) (refused : GrowError T V E)
+pub reach_due : {T V : Type 0} (size : ℕ) (bad_size : Type 0) (old new : CallerView T) (refused : GrowError T V Never)
     → KeepsCaller old new → RefusesAtLeast old.vector size old.hand new.hand refused
     → ReachDue size bad_size T new (growth_status refused)
 reach_due size bad_size old new (grow.NoMemory back) kept r = tt
 reach_due size bad_size old new (grow.Full found back) kept r =
     subst (λ v. limit_of v < size) (sym kept.vector) r.due
 reach_due size bad_size old new (grow.Moved found back) kept r = absurd r.due
-reach_due size bad_size old new (grow.Refused run made cause) kept r = tt
-reach_due size bad_size old new (grow.Taken place found) kept r = tt
+reach_due size bad_size old new (grow.Refused run made cause) kept r = elim cause [ ]
+reach_due size bad_size old new (grow.Taken place found) kept r = absurd r.due
 
 -- room that is above the limit
 pub room_due : {T : Type 0} (size width : ℕ) (caller : CallerView T) (refused : ReserveError)
@@ -123,7 +124,7 @@ pub wins_copies : {T : Type 0} (x : T) (n m : ℕ) (old new : CallerView T) (pla
 wins_copies x n m old new place is g = wins_grown (replicate m x) n old new place (is ∙ sym (length-replicate m x)) g
 
 -- and is refused as any growth of m places is
-pub copies_due : {T V E : Type 0} (x : T) (n m : ℕ) (bad_size : Type 0) (given : V) (old new : CallerView T) (refused : GrowError T V E)
+pub copies_due : {T V : Type 0} (x : T) (n m : ℕ) (bad_size : Type 0) (given : V) (old new : CallerView T) (refused : GrowError T V Never)
     → n ≡ m → KeepsCaller old new → Refuses old.vector (length (replicate m x)) given old.hand new.hand refused
     → GrowthDue n bad_size T new (growth_status refused)
 copies_due x n m bad_size given old new refused is kept r =

@@ -151,7 +151,6 @@ GrowthDue n bad_size T caller status.NoMemory = Unit {0}
 GrowthDue n bad_size T caller status.Moved = ¬ IsWholeHand caller.hand
 GrowthDue n bad_size T caller status.BadSize = bad_size
 GrowthDue n bad_size T caller status.Full = limit_of caller.vector < seen_size caller.hand + n
-GrowthDue n bad_size T caller status.Taken = Unit {0}
 GrowthDue n bad_size T caller other = ⊥
 
 -- a size that was asked for is above the limit
@@ -159,7 +158,6 @@ abbrev pub ReachDue : ℕ → Type 0 → (T : Type 0) → CallerView T → Statu
 ReachDue size bad_size T caller status.NoMemory = Unit {0}
 ReachDue size bad_size T caller status.BadSize = bad_size
 ReachDue size bad_size T caller status.Full = limit_of caller.vector < size
-ReachDue size bad_size T caller status.Taken = Unit {0}
 ReachDue size bad_size T caller other = ⊥
 
 -- the same of room

@@ -1,5 +1,4 @@
 // One life of a vector with one caller.
-;
 ghost use Rattle.grow_core.specs.Vector.{IsHandOf};
 
 use super::super::callers::place_of;

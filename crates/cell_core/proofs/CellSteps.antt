@@ -613,7 +613,7 @@ module _ {M : Type 1} {𝓤 : Ura M} (𝓛 : Logic 𝓤) (R : RattleType) (γ : 
   empty_at_idle broken idle = absurd (let z : 4 ≡ 0 = ap stage_number idle in omega arith)
   empty_at_idle broken_by_owner idle = absurd (let z : 4 ≡ 0 = ap stage_number idle in omega arith)
 
-  -- the load that begins a tied cell: the update comes first, and shows that the cell is idle
+  -- the step that begins a tied cell: the update comes first, and shows that the cell is idle
   module _ (age : Lft) (J : Fml) (gain : Stage → Stage → Fml) (t : Tie) where
     abbrev First : Fml
     First = FirstRight R γ α δ b e

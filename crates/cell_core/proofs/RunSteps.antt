@@ -7,7 +7,7 @@ use seplogic.Ra.Ura.{Ura}
 use base.Logic.{SProp, ent, sep, ex, emp, guard, upd, upd_i, wand, apply∗}
 use base.Fml.{Lft, Share, Fml, ftrue, fsep, flft, fbor, finv, fnamed}
 use types.Logic.{Logic, sem}
-use types.Kit.{‵, raw, ◌⊛◌, some, given, ◌$◌, ◌∵◌, !, qed, move, keep, drop, by, use1, use2, split, join, check, fsplit, fjoin, fpick, fpack, frame, each, assume, pick, learn, show, suffices, rewrite, settle, done}
+use types.Kit.{‵, raw, ◌⊛◌, some, given, ◌$◌, ◌∵◌, !, qed, move, keep, drop, by, use1, use2, use3, split, join, check, fsplit, fjoin, fpick, fpack, frame, each, assume, pick, learn, show, suffices, rewrite, settle, done}
 use denote.RattleType.{RattleType}
 use denote.RawPtr.{block_ptr}
 use denote.Steps.{nothing}
@@ -18,7 +18,7 @@ use Rattle.cell_core.specs.Slot.{Names, ArePlain, fact, above, floors, Turn, cel
 use Rattle.cell_core.specs.Slot.{Cells as all_cells}
 use Rattle.cell_core.specs.Run.{AreAt, AreEmptyIn, Ready, held, all_written, if_won, sights_owned}
 use Rattle.cell_core.specs.Fixed.{ShowStages}
-use Rattle.cell_core.proofs.Both.{borrowed_both}
+use Rattle.cell_core.proofs.Both.{borrowed_both, borrowed_beside}
 use Rattle.cell_core.proofs.Fields.{pack_ap, put_own, add_field, field_of, packed_below, sixteens}
 use Rattle.cell_core.proofs.WordSteps.{S, Law, Row, lifts, put_state, states_fit, above_inv}
 use Rattle.cell_core.proofs.Stages.{also, also_stage}
@@ -221,6 +221,26 @@ module _ {M : Type 1} {𝓤 : Ura M} (𝓛 : Logic 𝓤) (R : RattleType) (Γs :
     stepped_all_both q f n μ p J low after X law = let P : Fml = fbor α I in let Q : Fml = fbor μ J in
         qed 𝓛 (‵ Opened ∷ ‵ (fnamed n Q) ∷ ‵ (flft α q) ∷ ‵ (flft μ p) ∷ raw X ∷ []) ∵ fpick ! (λ k. fsplit ! $ fpick ! (λ above. drop ! $
         by ! (borrowed_both 𝓛 α μ q p I J b o f after k n (λ same. omega arith) X (turned_all q f (λ m. fsep J (after m)) (sep 𝓤 ⟦ J ⟧ X) law))))
+
+    -- a step on another word, which is the caller's own, leaves this word as it is
+    turned_beside : (J after : Fml) (X : Pr) → ((s : ℕ → S R) → ent 𝓤 (sep 𝓤 ⟦ Cells s ⟧ (sep 𝓤 ⟦ J ⟧ X)) (upd 𝓤 (ex 𝓤 (Whole (λ m. m) (λ _. fsep J after) s))))
+        → ent 𝓤 (sep 𝓤 ⟦ I ⟧ (sep 𝓤 ⟦ J ⟧ X)) (upd 𝓤 (sep 𝓤 ⟦ I ⟧ (sep 𝓤 ⟦ J ⟧ ⟦ after ⟧)))
+    turned_beside J after X law = let G : Pr = sep 𝓤 ⟦ I ⟧ (sep 𝓤 ⟦ J ⟧ ⟦ after ⟧) in
+        qed 𝓛 (‵ I ∷ ‵ J ∷ raw X ∷ []) ∵ fpick ! (λ s. fsplit ! $
+        -- [the word; its cells; the other content; X]
+        move ! (1 ∷ 2 ∷ 3 ∷ []) $ use3 𝓛 (raw (upd 𝓤 (ex 𝓤 (Whole (λ m. m) (λ _. fsep J after) s)))) (law s) $
+        settle 𝓛 G (some (λ (z : ℕ → S R). given (number z ≡ number s) (‵ (Cells z) ⊛ ‵ (fsep J after)))) $ pick ! (λ z. learn ! (λ so. split ! $
+        rewrite ! 2 (λ (y : ℕ). ‵ (word b o y)) (sym so) refl $ move ! (2 ∷ 0 ∷ []) $ fjoin ! $ fpack ! (ℕ → S R) (standing R Γs t b o c e) z $
+        suffices ! _ (upd_i 𝓤 G) $ move ! (1 ∷ []) $ fsplit ! $ move ! (2 ∷ []) $ done !)))
+
+    -- the same with another invariant open, whose number is lower
+    pub stepped_beside : (q : Share) (n : ℕ) (μ : Lft) (p : Share) (J : Fml) → n ≤ floors Γs → (after : Fml) (X : Pr)
+        → ((s : ℕ → S R) → ent 𝓤 (sep 𝓤 ⟦ Cells s ⟧ (sep 𝓤 ⟦ J ⟧ X)) (upd 𝓤 (ex 𝓤 (Whole (λ m. m) (λ _. fsep J after) s)))) → (b' o' m : ℕ)
+        → ent 𝓤 (sep 𝓤 ⟦ Opened ⟧ (sep 𝓤 (A.named n (fbor μ J)) (sep 𝓤 (A.lft α q) (sep 𝓤 (A.lft μ p) (sep 𝓤 ⟦ word b' o' m ⟧ X)))))
+        (asks 𝓛 (block_ptr b' o') (λ k. k) always (λ k. fsep (flft α q) (fsep (flft μ p) (fsep (word b' o' k) after))))
+    stepped_beside q n μ p J low after X law b' o' m = let P : Fml = fbor α I in let Q : Fml = fbor μ J in
+        qed 𝓛 (‵ Opened ∷ ‵ (fnamed n Q) ∷ ‵ (flft α q) ∷ ‵ (flft μ p) ∷ ‵ (word b' o' m) ∷ raw X ∷ []) ∵ fpick ! (λ k. fsplit ! $ fpick ! (λ above. drop ! $
+        by ! (borrowed_beside 𝓛 α μ q p I J b' o' m after k n (λ same. omega arith) X (turned_beside J after X law))))
 
     pub begins_all : (γs : List Names) (i : ℕ) → AreAt γs i Γs → ArePlain γs → length Γs ≤ 16 → (sought new : ℕ) → AreEmptyIn sought i (length γs) → new ≡ (sought + sums 1 (length γs) i) % 2 ^ 64 → (q : Share)
         → ent 𝓤 (sep 𝓤 ⟦ Opened ⟧ (sep 𝓤 (A.lft α q) (emp 𝓤))) (asks 𝓛 (block_ptr b o) (Swaps sought new) always (λ n. fsep (flft α q) (if_won (eqb n sought) (held R false t c e γs i []))))

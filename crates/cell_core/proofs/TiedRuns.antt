@@ -60,7 +60,7 @@ module _ {M : Type 1} {𝓤 : Ura M} (𝓛 : Logic 𝓤) (R : RattleType) (Γs :
   abbrev Whole : (ℕ → ℕ) → (ℕ → Fml) → (ℕ → S R) → (ℕ → S R) → Pr
   Whole = runs.Whole 𝓛 R Γs t c e
 
-  -- what the load that begins a run leaves: the right to write each cell, and the gain
+  -- what the step that begins a run leaves: the right to write each cell, and the gain
   abbrev pub Begins : List Names → ℕ → (List Made → Fml) → Fml
   Begins γs i gain = fsep (held R true t c e γs i []) (gain (replicate (length γs) (Idle, Begun)))
 

@@ -5,7 +5,7 @@ use seplogic.Ra.Ura.{Ura}
 use lib.Bits.{bit_and, bit_or}
 use lib.Pow.{pow_mono}
 use base.Logic.{SProp, ent, sep, ex, guard, upd, upd_i}
-use base.Fml.{Lft, GName, Share, Fml, ftrue, fsep, flft, finv, fnamed, fbor}
+use base.Fml.{Lft, GName, Share, Fml, ftrue, fex, fsep, flft, finv, fnamed, fbor}
 use base.Before.{before}
 use types.Na.{before_dup}
 use denote.Steps.{nothing}
@@ -20,7 +20,7 @@ use Rattle.core.proofs.raw_atomic.Asked.{borrowed, Lies, Again}
 use Rattle.cell_core.specs.Fields.{pack, field, put}
 use Rattle.tie_core.specs.Tie.{floor_of}
 use Rattle.cell_core.specs.Slot.{Names, cell_in, Phase, free, begun, busy, full, broken, broken_by_owner, state, Turn, step, room_at, word, cell, cells, standing, Cells, kept, shared_at, Spot, IsAt, above, floors, fact}
-use Rattle.cell_core.proofs.Both.{borrowed_both}
+use Rattle.cell_core.proofs.Both.{borrowed_both, borrowed_beside}
 use Rattle.cell_core.proofs.Fields.{Fit, field_of, pack_ap, or_field, and_field, add_field, packed_below, put_fits, put_own, sixteens}
 
 module _ (R : RattleType) where
@@ -168,6 +168,29 @@ module _ {M : Type 1} {𝓤 : Ura M} (𝓛 : Logic 𝓤) (R : RattleType) (γs :
       qed 𝓛 (‵ Open ∷ ‵ (fnamed n Q) ∷ ‵ (flft α q) ∷ ‵ (flft μ p) ∷ raw X ∷ []) ∵ fpick ! (λ k. fsplit ! $ fpick ! (λ more. drop ! $
       by ! (borrowed_both 𝓛 α μ q p I J b o f shown k n (λ same. omega arith) X (turned i less q f g turns (λ m. fsep J (after m)) (sep 𝓤 (sem 𝓛 J) X) law))))
 
+  -- a step on another word, which is the caller's own, leaves this word as it is
+  turned_beside : (i : ℕ) → i < length γs → (J : Fml) (after : ℕ → Fml) (X : SProp 𝓤)
+      → Law 𝓛 R α c (cell_in γs i) (t.1 i) (room_at R e i) (λ n. n) (λ n. fsep J (after n)) (sep 𝓤 (sem 𝓛 J) X)
+      → ent 𝓤 (sep 𝓤 (sem 𝓛 I) (sep 𝓤 (sem 𝓛 J) X)) (upd 𝓤 (sep 𝓤 (sem 𝓛 I) (sep 𝓤 (sem 𝓛 J) (sem 𝓛 (fex ℕ after)))))
+  turned_beside i less J after X law = let Left : ℕ → Fml = λ n. fsep J (after n) in let G : SProp 𝓤 = sep 𝓤 (sem 𝓛 I) (sep 𝓤 (sem 𝓛 J) (sem 𝓛 (fex ℕ after))) in
+      qed 𝓛 (‵ I ∷ (‵ J ⊛ raw X) ∷ []) ∵ fpick ! (λ s. fsplit ! $
+      -- [the word; its cells; the other content and X]
+      move ! (1 ∷ 2 ∷ []) $ use2 𝓛 (raw (upd 𝓤 (ex 𝓤 (Row 𝓛 R α c γs t.1 e i (λ n. n) Left s)))) (lifts 𝓛 R α c γs t.1 e i less (λ n. n) Left (sep 𝓤 (sem 𝓛 J) X) law s) $
+      settle 𝓛 G (some (λ (x : S R). given (state x ≡ state (s i)) (‵ (cells R γs α t.1 c e (put i x s)) ⊛ ‵ (Left (state (s i)))))) $ pick ! (λ x. learn ! (λ so. split ! $ suffices ! _ (upd_i 𝓤 G) $
+      let new : number s ≡ number (put i x s) = pack_ap γs (λ j. put_own i (λ l. state (s l)) j ∙ ap (λ (y : ℕ). put i y (λ l. state (s l)) j) (sym so) ∙ put_state R i x s j) in
+      rewrite ! 2 (λ (y : ℕ). ‵ (word b o y)) new refl $ move ! (2 ∷ 0 ∷ []) $ fjoin ! $ fpack ! (ℕ → S R) (standing R γs t b o c e) (put i x s) $
+      -- [the invariant; the other content and what is left]
+      move ! (1 ∷ []) $ fsplit ! $ move ! (1 ∷ []) $ fpack ! ℕ after (state (s i)) $ move ! (2 ∷ 1 ∷ 0 ∷ []) $ done !)))
+
+  -- the same with another invariant open, whose number is lower
+  pub stepped_beside : (i : ℕ) → i < length γs → (q : Share) (n : ℕ) (μ : Lft) (p : Share) (J : Fml) → n ≤ floors γs → (after : ℕ → Fml) (X : SProp 𝓤)
+      → Law 𝓛 R α c (cell_in γs i) (t.1 i) (room_at R e i) (λ m. m) (λ m. fsep J (after m)) (sep 𝓤 (sem 𝓛 J) X) → (b' o' m : ℕ)
+      → ent 𝓤 (sep 𝓤 (sem 𝓛 Open) (sep 𝓤 (A.named n (fbor μ J)) (sep 𝓤 (A.lft α q) (sep 𝓤 (A.lft μ p) (sep 𝓤 (sem 𝓛 (word b' o' m)) X)))))
+      (asks 𝓛 (block_ptr b' o') (λ k. k) always (λ k. fsep (flft α q) (fsep (flft μ p) (fsep (word b' o' k) (fex ℕ after)))))
+  stepped_beside i less q n μ p J low after X law b' o' m = let P : Fml = fbor α I in let Q : Fml = fbor μ J in
+      qed 𝓛 (‵ Open ∷ ‵ (fnamed n Q) ∷ ‵ (flft α q) ∷ ‵ (flft μ p) ∷ ‵ (word b' o' m) ∷ raw X ∷ []) ∵ fpick ! (λ k. fsplit ! $ fpick ! (λ more. drop ! $
+      by ! (borrowed_beside 𝓛 α μ q p I J b' o' m (fex ℕ after) k n (λ same. omega arith) X (turned_beside i less J after X law))))
+
   pub kept_dup : (κ : Lft) → ent 𝓤 (sem 𝓛 (kept R γs t b o c e κ)) (sep 𝓤 (sem 𝓛 (kept R γs t b o c e κ)) (sem 𝓛 (kept R γs t b o c e κ)))
   kept_dup κ = qed 𝓛 (‵ (kept R γs t b o c e κ) ∷ []) ∵ fsplit ! $ use1 𝓛 (‵ (before κ α) ⊛ ‵ (before κ α)) (before_dup 𝓛 κ α) $ split ! $ move ! (2 ∷ []) $
       use1 𝓛 (‵ Open ⊛ ‵ Open) (above_dup 𝓛 (floors γs) (fbor α I)) $ split ! $ move ! (2 ∷ 0 ∷ []) $ fjoin ! $ move ! (2 ∷ 1 ∷ []) $ fjoin ! $ done !
@@ -215,3 +238,10 @@ module _ {M : Type 1} {𝓤 : Ura M} (𝓛 : Logic 𝓤) (R : RattleType) (γ : 
       (asks 𝓛 (block_ptr b o) f always (λ m. fsep (flft z.1.0 q) (fsep (flft μ p) (after (field m i)))))
   stepped_both_at q f g turns n μ p J low after X law = let same = ap (λ (u : Names). floor_of u.tied) at.2 in let within = floor_within z.0 i at.0 in
       stepped_both 𝓛 R z.0 z.1 b o c z.2 i at.0 q f g (turns at.0 at.1) n μ p J (omega (arith, same, within)) after X (law_at g (λ m. fsep J (after m)) (sep 𝓤 (sem 𝓛 J) X) law)
+
+  pub stepped_beside_at : (q : Share) (n : ℕ) (μ : Lft) (p : Share) (J : Fml) → n ≤ floor_of γ.tied → (after : ℕ → Fml) (X : SProp 𝓤)
+      → Law 𝓛 R z.1.0 c γ (z.1.1 i) r (λ m. m) (λ m. fsep J (after m)) (sep 𝓤 (sem 𝓛 J) X) → (b' o' m : ℕ)
+      → ent 𝓤 (sep 𝓤 (sem 𝓛 (above (floors z.0) (fbor z.1.0 (Cells R z.0 z.1 b o c z.2)))) (sep 𝓤 (A.named n (fbor μ J)) (sep 𝓤 (A.lft z.1.0 q) (sep 𝓤 (A.lft μ p) (sep 𝓤 (sem 𝓛 (word b' o' m)) X)))))
+      (asks 𝓛 (block_ptr b' o') (λ k. k) always (λ k. fsep (flft z.1.0 q) (fsep (flft μ p) (fsep (word b' o' k) (fex ℕ after)))))
+  stepped_beside_at q n μ p J low after X law = let same = ap (λ (u : Names). floor_of u.tied) at.2 in let within = floor_within z.0 i at.0 in
+      stepped_beside 𝓛 R z.0 z.1 b o c z.2 i at.0 q n μ p J (omega (arith, same, within)) after X (law_at (λ m. m) (λ m. fsep J (after m)) (sep 𝓤 (sem 𝓛 J) X) law)

@@ -209,7 +209,7 @@ module _
           (begins terms s kept id v is_limit is_base is_filled part at place seat (there s kept at) index owned in_run
           (subst (λ (x : CellStage). get_elem? s.views seat ≡ some (cell_view x)) is_idle cell)))
 
-      -- a begin by a load, of a place of an own run that the hand does not know begun: the cell was idle
+      -- a begin that changes no word, of a place of an own run that the hand does not know begun: the cell was idle
       pub permits_begin : (Contains v.begun place → ⊥)
           → PermitsCell (Kept terms) id v seat MovesByBegin (λ a b w. (a ≡ stages.Idle) × Begins v place w)
       permits_begin unknown a b moves s kept at cell =

@@ -54,7 +54,7 @@ try_event limit place stage after = look_event place stage
 abbrev pub MovesByLook : CellStage → CellStage → Type 0
 MovesByLook stage after = after ≡ stage
 
--- a begin by a load finds it idle or begun
+-- a begin that changes no word finds it idle or begun
 abbrev pub MovesByBegin : CellStage → CellStage → Type 0
 MovesByBegin stage after = ((stage ≡ stages.Idle) ⊎ (stage ≡ stages.Begun)) × (after ≡ stages.Begun)
 

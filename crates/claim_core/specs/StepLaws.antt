@@ -65,7 +65,7 @@ MendsArePermitted =
     → PermitsCell (Kept terms) id v seat MovesByMend
     (λ stage after. Remarks v (try_event terms.limit place stage after ∷ []))
 
--- a begin by a load, of an own place that the hand does not know begun, finds it idle
+-- a begin that changes no word, of an own place that the hand does not know begun, finds it idle
 abbrev pub BeginsArePermitted : Type 0
 BeginsArePermitted =
     (terms : Terms) (id seat place index : ℕ) (v : SeatView) → FindsPlace terms v place seat → OwnsAt v index place

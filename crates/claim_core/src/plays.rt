@@ -75,7 +75,7 @@ impl HandPlay for LookAt {
     ghost gains = { look_gains };
 }
 
-/// A begin of a cell, by a load.
+/// A begin of a cell, which changes no word.
 pub struct BeginAt;
 
 impl HandPlay for BeginAt {

@@ -44,7 +44,7 @@ impl<M: RunHandPlay> RunPlay<SeatView> for RunGain<M> {
     ghost then = { told_along M.gains };
 }
 
-/// A begin of a run of cells, by a load.
+/// A begin of a run of cells, which changes no word.
 pub struct BeginRun;
 
 impl RunHandPlay for BeginRun {

@@ -21,8 +21,8 @@ pub fn writes_are_permitted()
     ensures mends { MendsArePermitted }
 {}
 
-/// States that a hand may begin its own places: by a load, one that it does not know begun, which was idle; by an
-/// exchange, any of them.
+/// States that a hand may begin its own places: in a step that changes no word, one that it does not know begun,
+/// which was idle; by an exchange, any of them.
 pub fn begins_are_permitted()
     ensures load { BeginsArePermitted }
     ensures exchange { TriesArePermitted }

@@ -75,7 +75,7 @@ impl<T> Shared<T> {
         look
     }
 
-    // Begins a place of the hand's own that the hand does not know begun, by one load.
+    // Begins a place of the hand's own that the hand does not know begun. It reads no state.
     #[inline(always)]
     fn begin_tied<'a>(
         &'a self,
@@ -218,7 +218,7 @@ impl<T> Shared<T> {
 }
 
 impl<T: Drop> Shared<T> {
-    // Begins `n` places of the segment, which are the hand's own and whose states are in one word, by one load.
+    // Begins `n` places of the segment, which are the hand's own and whose states are in one word. It reads no state.
     #[inline(always)]
     pub(crate) fn begin_run_tied<'a>(
         &'a self,

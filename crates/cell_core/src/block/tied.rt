@@ -123,8 +123,8 @@ impl<T, A: Allocator> Block<T, A, Tied> {
         }
     }
 
-    /// Begins a tied cell, by one load. The offer's update runs in the load and shows that nobody has begun the cell,
-    /// so this never fails. The pen is the right to fill or break the cell.
+    /// Begins a tied cell. The offer's update shows that nobody has begun the cell, so this never fails. It runs in a
+    /// load of the call's own, which reads no state. The pen is the right to fill or break the cell.
     #[inline(always)]
     pub fn begin_for<'a, 'b, X, K: Book<X>>(
         &'a self,

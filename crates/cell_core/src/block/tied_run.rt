@@ -1,5 +1,4 @@
-// Runs of tied cells: each call has one atomic step on the word of their states, which runs an update of its caller for
-// each cell, in order.
+// Runs of tied cells: each call has one atomic step, which runs an update of its caller for each cell, in order.
 ghost use Rattle.std.specs.Prelude.{◌≡◌, ◌<◌, ◌≤◌, ◌+◌, ◌%◌, Some, None, length, replicate};
 ghost use Rattle.cell_core.specs.Block.{block_len};
 ghost use Rattle.cell_core.specs.Laid.{word_cells};
@@ -14,9 +13,9 @@ use std::marker::PhantomData;
 use tie_core::{RunBook, RunOffer};
 
 impl<T, A: Allocator> Block<T, A, Tied> {
-    /// Begins `n` tied cells from an offset on, whose states are in one word, by one load. The offer's updates run in
-    /// the load and show that nobody has begun any of the cells, so this never fails. The pen is the right to fill
-    /// them.
+    /// Begins `n` tied cells from an offset on, whose states are in one word. The offer's updates show that nobody has
+    /// begun any of the cells, so this never fails. They run in a load of the call's own, which reads no state. The pen
+    /// is the right to fill the cells.
     #[tactic(auto, using(crate::proofs::PlainCells::tied_run_kind, crate::proofs::RunParts::from_length))]
     #[inline(always)]
     pub fn begin_run_for<'a, 'b, X, K: RunBook<X>>(

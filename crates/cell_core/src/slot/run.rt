@@ -1,5 +1,5 @@
 // The raw steps on a run: cells next to each other whose states are in one word. One step begins them all, one
-// publishes them all, and one load shows them all.
+// publishes them all, and one load shows them all. A tied run is begun in a step on another word.
 ghost use Rattle.std.specs.Prelude.{Bool, true, false, Some, None, ◌≡◌, ◌≢◌, ℕ, ◌+◌, ◌%◌, ◌^◌, ◌<◌, ◌≤◌, ◌++◌, ◌∷◌, [], List, length, replicate};
 ghost use base.Stored.{coded_bool, coded_list};
 ghost use Rattle.tie_core.specs.Tie.{Idle, Begun, Filled, begins, fills};
@@ -74,7 +74,8 @@ impl<'a, T> RawCells<'a, T> {
         (found, RawRun { word, room, marker })
     }
 
-    // The load that begins each cell of a tied run. The caller's updates run in it, and show that nobody has begun any.
+    // Begins each cell of a tied run. The caller's updates show that nobody has begun any. They run in a load of a
+    // word that nobody else has, so that no cache line is waited for.
     #[inline(always)]
     pub(crate) fn begin_for<'b, X, K: RunBook<X>>(
         self,
@@ -89,8 +90,9 @@ impl<'a, T> RawCells<'a, T> {
             × (result.1.made ≡ Some (replicate (length self.entry.of) (Idle, Begun))) }
     {
         let RawCells { word, room, marker } = self;
-        // The step is this load. The cells are idle by what is known of them, so it can find nothing else.
-        let _found = unsafe { raw::load::<Brand>(word, SeqCst) };
+        // The step is this load.
+        let own = 0;
+        let _found = unsafe { raw::load::<Brand>(&raw const own, SeqCst) };
         (RawRun { word, room, marker }, offer)
     }
 

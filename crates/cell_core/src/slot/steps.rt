@@ -195,7 +195,8 @@ impl<'a, T> RawSlot<'a, T> {
         (found, sight, offer)
     }
 
-    // The load that begins a tied cell. The caller's update runs in it, and shows that nobody has begun the cell.
+    // Begins a tied cell. The caller's update shows that nobody has begun it. It runs in a load of a word that nobody
+    // else has, so that no cache line is waited for.
     #[inline(always)]
     pub(crate) fn begin_for<'b, X, K: Book<X>>(
         self,
@@ -208,8 +209,9 @@ impl<'a, T> RawSlot<'a, T> {
             × (result.1.step ≡ offer.entry.step) × HasMade begins empty_state result.1.made }
     {
         let RawSlot { word, room, marker } = self;
-        // The step is this load. The cell is idle by what is known of it, so it can find nothing else.
-        let _found = unsafe { raw::load::<Brand>(word, SeqCst) };
+        // The step is this load.
+        let own = 0;
+        let _found = unsafe { raw::load::<Brand>(&raw const own, SeqCst) };
         (RawPen { word, room, marker }, offer)
     }
 

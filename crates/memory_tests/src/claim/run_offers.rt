@@ -14,7 +14,7 @@ use cell_core::block::{Block, First, Row, RunPen, Tied};
 use claim_core::{CellTag, Hand, Word, laws};
 use std::alloc::{Allocator, Global};
 
-// A hand that owns places next to each other, and knows none of them begun, may begin them all by one load.
+// A hand that owns places next to each other, and knows none of them begun, may begin them all in one step.
 fn begin_own_run<'a, A: Allocator>(
     word: &Word<A>,
     hand: &mut Hand,

@@ -1,4 +1,4 @@
--- `begin_for` begins the cells of a run, by the caller's updates.
+-- `begin_for` begins the cells of a run, by the caller's updates, in a step on a word of its own.
 use Rattle.std.specs.Prelude.{Option, Some, None}
 use Rattle.std.proofs.Common.{true, eqb, ◌≡◌, ◌<◌, ℕ, List, [], ◌∷◌, ◌++◌, length, replicate, refl, ap, lit<}
 use mir.Syntax.{a_type, dcons, dnil}
@@ -8,8 +8,8 @@ use base.Logic.{SProp, wand, emp, via, apply∗, guard_i}
 use base.Fml.{Lft, Share, Fml, ftrue, fsep, flft, feq}
 use types.Logic.{sem}
 use types.Kit.{mean, ‵, raw, ◌⊛◌, some, given, later, at_ret, ◌$◌, ◌∵◌, !, qed, by, move, keep, drop, use0, use1, use2, use3, split, split3, join, fsplit, fsplit3, fjoin, fpick, fpack, pick, learn, await, rewrite, feq_i}
-use types.Run.{stop, fld, lit, of_opd, no_more, and_then, first, blocks, exec, Calls-last, returns, enter}
-use types.ByLocal.{alloc_all, pass_all, free_all, look_at, get, get_in, sets, lands_last, is, env}
+use types.Run.{stop, from, addr, fld, lit, of_opd, no_more, and_then, first, blocks, exec, Calls-last, returns, enter}
+use types.ByLocal.{alloc_all, pass_all, free_all, look_at, take_at, give_at, get, get_in, sets, lands_last, is, env}
 use types.Part.{agg, sub, whole}
 use contract.Running.{tables}
 use contract.Monad.{fact, fact_i, fact_use}
@@ -26,7 +26,7 @@ use Rattle.atomic_table.proofs.Calls.{fm, seq_cst, found, loads, finds}
 use Rattle.core.proofs.atomic.Steps.{tail}
 use Rattle.tie_core.specs.Tie.{Tie, Step, Idle, Begun, begins, Made}
 use Rattle.tie_core.specs.Run.{run_floor, run_offer_owns, updates}
-use Rattle.cell_core.specs.Slot.{Names, Turn, Spot, kept}
+use Rattle.cell_core.specs.Slot.{Names, Turn, Spot, kept, word}
 use Rattle.cell_core.specs.Slot.{fact as is_fact}
 use Rattle.cell_core.specs.Run.{AreTiedTo, IsRunAt, held, if_won, cells_owned}
 use Rattle.cell_core.specs.contracts.slot.run.RawCells as RawCells
@@ -36,7 +36,7 @@ use Rattle.cell_core.proofs.CellMade.{pointers_val, pointers_good, token_val}
 use Rattle.cell_core.proofs.RunMade.{RunWords, run_made, cells_told, cells_placed}
 use Rattle.tie_core.proofs.RunOfferMade.{RunOfferWords, run_offer_told, run_offer_made}
 use Rattle.cell_core.proofs.WordSteps.{kept_dup}
-use Rattle.cell_core.proofs.RunSteps.{stepped_all_both}
+use Rattle.cell_core.proofs.RunSteps.{stepped_beside}
 use Rattle.cell_core.proofs.TiedRuns as tied
 use Rattle.cell_core.specs.contracts.slot.run.RawCells.begin_for.{ended, clauses}
 use Rattle.cell_core.specs.contracts.slot.run.RawCells.begin_for.Key.{name as #self}
@@ -71,23 +71,26 @@ begin_for_spec 𝓤 𝓛 𝓜 𝓡 wired T X K _ _ _ g dict _ =
     -- [the turn's token; the way back; the invariant; the offer; the offer's token; the others]
     move ! (4 ∷ []) $ fsplit3 ! $ move ! (0 ∷ 7 ∷ []) $ use2 𝓛 (later (some (λ (v : Share). ‵ (flft θ v) ⊛ raw (wand 𝓤 (A.lft θ v) (H.⇛ (A.lft μ q')))))) (Lends-one 𝓛 𝓜 𝓡 μ θ q') $ await ! tt $ pick ! (λ v. split ! $
     -- [the table's token; its way back; its invariant; the update; the turn's token; the way back; the invariant; the others]
-    let Updates : Fml = updates θ J begins ts gain in let Shown : ℕ → Fml = λ _. tied.Begins 𝓛 R γs t d s.2 θ J gs i gain in let after : ℕ → Fml = λ k. fsep (flft α w) (fsep (flft θ v) (Shown k)) in
+    let Updates : Fml = updates θ J begins ts gain in let Begun_by : Fml = tied.Begins 𝓛 R γs t d s.2 θ J gs i gain in let own : ℕ = l 6 in let after : ℕ → Fml = λ k. fsep (flft α w) (fsep (flft θ v) (fsep (word own 0 k) Begun_by)) in
     sets ! (is ! (of_opd ! (get_in ! (fld ! refl (stop !)) (sub ! 0 refl (whole !)))) (ap ptr_val is_at)) refl (tt, tt) $
     sets ! (is ! (of_opd ! (get_in ! (fld ! refl (stop !)) (sub ! 1 refl (whole !)))) (ap ptr_val is_room)) refl (tt, tt) $
     sets ! (of_opd ! (get_in ! (fld ! refl (stop !)) (sub ! 2 refl (whole !)))) refl (tt, tt) $
-    first ! $ blocks ! $ move ! (0 ∷ 3 ∷ []) $ join ! $ move ! (3 ∷ 0 ∷ []) $ join ! $ move ! (4 ∷ 2 ∷ 0 ∷ []) $
-    use3 𝓛 (raw (𝓣.C _ (vptr b o ∷ seq_cst ∷ []) (λ u. mean 𝓛 (found after u))))
-    (via 𝓤 _ (stepped_all_both 𝓛 R γs t d s.2 b o w (λ k. k) (run_floor ts) θ v J (tied.run_within gs i γs ts at.0 asked.0 asked.3) Shown (sem 𝓛 Updates) (tied.begins_for 𝓛 R γs t d s.2 θ J gs i at.0 ts asked.0 gain))
-    (loads 𝓛 𝓜 𝓡 (code.calls-core::raw_atomic::load 𝓡.env wired) (block_ptr b o) after)) $
+    sets ! (of_opd ! (lit ! tt)) refl (tt, record { fits = lit< tt }) $
+    first ! $ blocks ! $ sets ! (addr ! (from ! (stop !))) refl (tt, tt) $ take_at ! 6 $
+    -- [the own word; the table's token; its way back; its invariant; the update; the turn's token; the way back; the invariant; the others]
+    move ! (0 ∷ 4 ∷ []) $ join ! $ move ! (1 ∷ 0 ∷ []) $ join ! $ move ! (3 ∷ 0 ∷ []) $ join ! $ move ! (4 ∷ 2 ∷ 0 ∷ []) $
+    use3 𝓛 (raw (𝓣.C _ (vptr own 0 ∷ seq_cst ∷ []) (λ u. mean 𝓛 (found after u))))
+    (via 𝓤 _ (stepped_beside 𝓛 R γs t d s.2 b o w (run_floor ts) θ v J (tied.run_within gs i γs ts at.0 asked.0 asked.3) Begun_by (sem 𝓛 Updates) (tied.begins_for 𝓛 R γs t d s.2 θ J gs i at.0 ts asked.0 gain) own 0 0)
+    (loads 𝓛 𝓜 𝓡 (code.calls-core::raw_atomic::load 𝓡.env wired) (block_ptr own 0) after)) $
     sets ! (agg ! (and_then ! (lit ! tt) (no_more !))) refl (tt, (record { fits = lit< tt }, tt)) $
     Calls-last ! (fm 𝓛 𝓜 𝓡) (found after) (and_then ! (get ! refl) (and_then ! (get ! refl) (no_more !))) (λ u. finds ! after (λ n fits.
-    lands_last ! refl (tt, record { fits = fits }) $ exec ! 𝓣.C 𝓣.Λ Ev (tail (tail (tail (tail fn.body)))) (at_ret Ev Post) $
+    lands_last ! refl (tt, record { fits = fits }) $ exec ! 𝓣.C 𝓣.Λ Ev (tail (tail (tail (tail (tail fn.body))))) (at_ret Ev Post) $
     sets ! (of_opd ! (get ! refl)) refl (tt, record { fits = fits }) $
     sets ! (agg ! (and_then ! (get ! refl) (and_then ! (get ! refl) (and_then ! (get ! refl) (no_more !))))) refl (pointers_good (block_ptr b o) (block_ptr d r)) $
     sets ! (of_opd ! (get ! refl)) refl (tt, (tt, tt)) $
     sets ! (agg ! (and_then ! (get ! refl) (and_then ! (get ! refl) (no_more !)))) refl (tt, ((tt, (tt, (tt, tt))), ((tt, tt), tt))) $
     -- [the step's; the table's way back; the way back; the lending; the others]
-    fsplit ! $ move ! (0 ∷ 3 ∷ []) $ use2 𝓛 (later (‵ (flft β q))) (apply∗ 𝓤 (A.lft α w) (H.⇛ (A.lft β q))) $ await ! tt $ move ! (1 ∷ []) $ fsplit ! $
+    fsplit ! $ move ! (0 ∷ 3 ∷ []) $ use2 𝓛 (later (‵ (flft β q))) (apply∗ 𝓤 (A.lft α w) (H.⇛ (A.lft β q))) $ await ! tt $ move ! (1 ∷ []) $ fsplit ! $ move ! (1 ∷ []) $ fsplit ! $ give_at ! 6 $ move ! (1 ∷ []) $
     -- [the table's token; what is shown; the token; its way back; the lending; the others]
     move ! (0 ∷ 3 ∷ []) $ use2 𝓛 (later (‵ (flft μ q'))) (apply∗ 𝓤 (A.lft θ v) (H.⇛ (A.lft μ q'))) $ await ! tt $
     -- [the offer's token; what is shown; the token; the lending; the others]

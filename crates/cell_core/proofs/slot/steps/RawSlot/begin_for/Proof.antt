@@ -1,15 +1,15 @@
--- `begin_for` begins a cell, by the caller's update.
+-- `begin_for` begins a cell, by the caller's update, in a step on a word of its own.
 use Rattle.std.specs.Prelude.{Option, Some, None}
 use Rattle.std.proofs.Common.{true, ◌≡◌, ◌≤◌, le_refl, ℕ, List, [], ◌∷◌, ◌++◌, refl, sym, ap, subst, lit<}
 use mir.Syntax.{a_type, dcons, dnil}
 use mir.Val.{Val, vptr, vstruct, vcons, vnil, of_list}
 use mir.MapTy.{inst_fn}
 use base.Logic.{SProp, sep, wand, emp, via, apply∗, guard_i}
-use base.Fml.{Lft, Share, Fml, ftrue, fsep, flft, feq}
+use base.Fml.{Lft, Share, Fml, ftrue, fex, fsep, flft, feq}
 use types.Logic.{sem}
 use types.Kit.{mean, ‵, raw, ◌⊛◌, some, given, later, at_ret, ◌$◌, ◌∵◌, !, qed, by, move, keep, drop, use0, use1, use2, use3, split, split3, join, fsplit, fsplit3, fjoin, fpick, fpack, pick, learn, await, rewrite, feq_i}
-use types.Run.{stop, fld, lit, of_opd, no_more, and_then, first, blocks, exec, Calls-last, returns, enter}
-use types.ByLocal.{alloc_all, pass_all, free_all, look_at, get, get_in, sets, lands_last, is, env}
+use types.Run.{stop, from, addr, fld, lit, of_opd, no_more, and_then, first, blocks, exec, Calls-last, returns, enter}
+use types.ByLocal.{alloc_all, pass_all, free_all, look_at, take_at, give_at, get, get_in, sets, lands_last, is, env}
 use types.Part.{agg, sub, whole}
 use contract.Running.{tables}
 use contract.Monad.{fact, fact_i, fact_use}
@@ -24,9 +24,8 @@ use denote.Triple.Walked.{Stays, stay_dropped, walk_of, Goes-dropped}
 use Rattle.atomic_table.proofs.Walks.{proved, leaves}
 use Rattle.atomic_table.proofs.Calls.{fm, seq_cst, found, loads, finds}
 use Rattle.core.proofs.atomic.Steps.{tail}
-use Rattle.cell_core.specs.Fields.{field}
 use Rattle.tie_core.specs.Tie.{Tie, Step, begins, Shows, Stage, Made, HasMade, floor_of, offer_owns, update}
-use Rattle.cell_core.specs.Slot.{Names, Turn, Spot, IsAt, kept, won, FirstRight, slot_owned}
+use Rattle.cell_core.specs.Slot.{Names, Turn, Spot, IsAt, kept, word, won, FirstRight, slot_owned}
 use Rattle.cell_core.specs.Slot.{fact as is_fact}
 use Rattle.cell_core.specs.contracts.slot.steps.RawSlot as RawSlot
 use Rattle.cell_core.specs.contracts.slot.steps.RawPen as RawPen
@@ -34,7 +33,7 @@ use Rattle.tie_core.specs.contracts.offer.Offer as Offer
 use Rattle.cell_core.proofs.CellMade.{PenWords, pen_made, pointers_val, pointers_good, token_val, slot_told, slot_placed}
 use Rattle.tie_core.proofs.OfferMade.{OfferWords, offer_told, offer_made}
 use Rattle.cell_core.proofs.CellSteps as steps
-use Rattle.cell_core.proofs.WordSteps.{stepped_both_at, turns_same, kept_dup}
+use Rattle.cell_core.proofs.WordSteps.{stepped_beside_at, kept_dup}
 use Rattle.cell_core.specs.contracts.slot.steps.RawSlot.begin_for.{ended, clauses}
 use Rattle.cell_core.specs.contracts.slot.steps.RawSlot.begin_for.Key.{name as #self}
 use Rattle.cell_core.proofs.slot.steps.RawSlot.begin_for.Statement.{statement}
@@ -68,28 +67,31 @@ begin_for_spec 𝓤 𝓛 𝓜 𝓡 wired T X K _ _ _ g dict _ =
     -- [the turn's token; the way back; the invariant; the offer; the offer's token; the others]
     move ! (4 ∷ []) $ fsplit3 ! $ move ! (0 ∷ 7 ∷ []) $ use2 𝓛 (later (some (λ (v : Share). ‵ (flft θ v) ⊛ raw (wand 𝓤 (A.lft θ v) (H.⇛ (A.lft μ q')))))) (Lends-one 𝓛 𝓜 𝓡 μ θ q') $ await ! tt $ pick ! (λ v. split ! $
     -- [the table's token; its way back; its invariant; the update; the turn's token; the way back; the invariant; the others]
-    let Update : Fml = update θ J gain tie begins in let Shown : ℕ → Fml = λ k. fsep (FirstRight R γ α (t.1 i) d r) (steps.ran 𝓛 R γ α (t.1 i) d r θ J gain tie begins k) in let after : ℕ → Fml = λ k. fsep (flft α w) (fsep (flft θ v) (Shown (field k i))) in
+    let Update : Fml = update θ J gain tie begins in let Shown : ℕ → Fml = λ k. fsep (FirstRight R γ α (t.1 i) d r) (steps.ran 𝓛 R γ α (t.1 i) d r θ J gain tie begins k) in let own : ℕ = l 6 in let after : ℕ → Fml = λ k. fsep (flft α w) (fsep (flft θ v) (fsep (word own 0 k) (fex ℕ Shown))) in
     sets ! (is ! (of_opd ! (get_in ! (fld ! refl (stop !)) (sub ! 0 refl (whole !)))) (ap ptr_val is_at)) refl (tt, tt) $
     sets ! (is ! (of_opd ! (get_in ! (fld ! refl (stop !)) (sub ! 1 refl (whole !)))) (ap ptr_val is_room)) refl (tt, tt) $
     sets ! (of_opd ! (get_in ! (fld ! refl (stop !)) (sub ! 2 refl (whole !)))) refl (tt, tt) $
-    first ! $ blocks ! $ nothing ! $ move ! (4 ∷ 0 ∷ []) $ join ! $ move ! (1 ∷ 0 ∷ []) $ join ! $ move ! (3 ∷ 0 ∷ []) $ join ! $ move ! (4 ∷ 2 ∷ 0 ∷ []) $
-    use3 𝓛 (raw (𝓣.C _ (vptr b o ∷ seq_cst ∷ []) (λ u. mean 𝓛 (found after u))))
-    (via 𝓤 _ (stepped_both_at 𝓛 R γ b o d r i s at w (λ k. k) (λ k. k) (turns_same R γs i) tie.floor θ v J (subst (λ (τ : Option Tie). tie.floor ≤ floor_of τ) (sym asked.0) (le_refl tie.floor)) Shown (sep 𝓤 (sem 𝓛 Update) (emp 𝓤))
-    (steps.begins_by 𝓛 R γ α (t.1 i) d r θ J gain tie asked.0))
-    (loads 𝓛 𝓜 𝓡 (code.calls-core::raw_atomic::load 𝓡.env wired) (block_ptr b o) after)) $
+    sets ! (of_opd ! (lit ! tt)) refl (tt, record { fits = lit< tt }) $
+    first ! $ blocks ! $ sets ! (addr ! (from ! (stop !))) refl (tt, tt) $ nothing ! $ move ! (4 ∷ 0 ∷ []) $ join ! $ take_at ! 6 $
+    -- [the own word; the update; the table's token; its way back; its invariant; the turn's token; the way back; the invariant; the others]
+    move ! (0 ∷ 1 ∷ []) $ join ! $ move ! (1 ∷ 0 ∷ []) $ join ! $ move ! (3 ∷ 0 ∷ []) $ join ! $ move ! (4 ∷ 2 ∷ 0 ∷ []) $
+    use3 𝓛 (raw (𝓣.C _ (vptr own 0 ∷ seq_cst ∷ []) (λ u. mean 𝓛 (found after u))))
+    (via 𝓤 _ (stepped_beside_at 𝓛 R γ b o d r i s at w tie.floor θ v J (subst (λ (τ : Option Tie). tie.floor ≤ floor_of τ) (sym asked.0) (le_refl tie.floor)) Shown (sep 𝓤 (sem 𝓛 Update) (emp 𝓤))
+    (steps.begins_by 𝓛 R γ α (t.1 i) d r θ J gain tie asked.0) own 0 0)
+    (loads 𝓛 𝓜 𝓡 (code.calls-core::raw_atomic::load 𝓡.env wired) (block_ptr own 0) after)) $
     sets ! (agg ! (and_then ! (lit ! tt) (no_more !))) refl (tt, (record { fits = lit< tt }, tt)) $
     Calls-last ! (fm 𝓛 𝓜 𝓡) (found after) (and_then ! (get ! refl) (and_then ! (get ! refl) (no_more !))) (λ u. finds ! after (λ n fits.
-    lands_last ! refl (tt, record { fits = fits }) $ exec ! 𝓣.C 𝓣.Λ Ev (tail (tail (tail (tail fn.body)))) (at_ret Ev Post) $
+    lands_last ! refl (tt, record { fits = fits }) $ exec ! 𝓣.C 𝓣.Λ Ev (tail (tail (tail (tail (tail fn.body))))) (at_ret Ev Post) $
     sets ! (of_opd ! (get ! refl)) refl (tt, record { fits = fits }) $
     sets ! (agg ! (and_then ! (get ! refl) (and_then ! (get ! refl) (and_then ! (get ! refl) (no_more !))))) refl (pointers_good (block_ptr b o) (block_ptr d r)) $
     sets ! (of_opd ! (get ! refl)) refl (tt, (tt, tt)) $
     sets ! (agg ! (and_then ! (get ! refl) (and_then ! (get ! refl) (no_more !)))) refl (tt, ((tt, (tt, (tt, tt))), ((tt, tt), tt))) $
     -- [the step's; the table's way back; the way back; the lending; the others]
-    fsplit ! $ move ! (0 ∷ 3 ∷ []) $ use2 𝓛 (later (‵ (flft β q))) (apply∗ 𝓤 (A.lft α w) (H.⇛ (A.lft β q))) $ await ! tt $ move ! (1 ∷ []) $ fsplit ! $
+    fsplit ! $ move ! (0 ∷ 3 ∷ []) $ use2 𝓛 (later (‵ (flft β q))) (apply∗ 𝓤 (A.lft α w) (H.⇛ (A.lft β q))) $ await ! tt $ move ! (1 ∷ []) $ fsplit ! $ move ! (1 ∷ []) $ fsplit ! $ give_at ! 6 $ move ! (1 ∷ []) $
     -- [the table's token; what is shown; the token; its way back; the lending; the others]
     move ! (0 ∷ 3 ∷ []) $ use2 𝓛 (later (‵ (flft μ q'))) (apply∗ 𝓤 (A.lft θ v) (H.⇛ (A.lft μ q'))) $ await ! tt $
     -- [the offer's token; what is shown; the token; the lending; the others]
-    move ! (0 ∷ 4 ∷ []) $ join ! $ move ! (2 ∷ 0 ∷ []) $ join ! $ move ! (1 ∷ []) $ fsplit ! $ let k : ℕ = field n i in
+    move ! (0 ∷ 4 ∷ []) $ join ! $ move ! (2 ∷ 0 ∷ []) $ join ! $ move ! (1 ∷ []) $ fpick ! (λ k. fsplit ! $
     -- [the right; what is told; the tokens; the lending]
     let p' : Ptr = block_ptr b o in let z' : Ptr = block_ptr d r in let pen : Hr.Denot = record { word = p'; room = z'; marker = record {}; of = γ; index = i; first = true; sought = 0; found = 0 } in
     move ! (3 ∷ 0 ∷ []) $ fjoin ! $ nothing ! $ fpack ! (IsAt R γ i r s) (λ _. ftrue) at $ fjoin ! $ fpack ! Spot (λ m. fsep (is_fact (IsAt R γ i r m)) (fsep (kept R m.0 m.1 b o d m.2 β) (won R γ m.1.0 (m.1.1 i) d r true 0 0))) s $
@@ -102,4 +104,4 @@ begin_for_spec 𝓤 𝓛 𝓜 𝓡 wired T X K _ _ _ g dict _ =
     nothing ! $ move ! (1 ∷ 0 ∷ []) $ fjoin ! $ move ! (1 ∷ 0 ∷ []) $ fjoin ! $ feq_i ! (List Val) (val ∷ []) (val ∷ []) refl $ fjoin ! $
     fpack ! (Valss (Hr ∷ Or ∷ [])) (λ uss. fsep (feq (List Val) (val ∷ []) (vstruct (of_list (uss.0 ++ (uss.1.0 ++ []))) ∷ [])) (owns (Hr ∷ Or ∷ []) (pen, (f', tt)) uss)) (pointers_val p' z' ∷ [], (token_val ∷ [], tt)) $
     use0 𝓛 (raw (fact 𝓤 Told)) (fact_i 𝓤 Told (emp 𝓤) (refl, refl, refl, refl, refl, refl, refl, refl, subst (λ (u : ℕ). HasMade begins u (Some m)) none has)) $ nothing ! $ nothing ! $ fjoin ! $ nothing ! $ fjoin ! $
-    returns ! (look_at ! 0 refl) $ free_all ! refl $ keep ! (3 ∷ 0 ∷ 2 ∷ 1 ∷ []) $ by ! (leaves 𝓛 En hs c y val (pen, f') (tt, (tt, tt)) (tt, (tt, tt)))))))))))))))
+    returns ! (look_at ! 0 refl) $ free_all ! refl $ keep ! (3 ∷ 0 ∷ 2 ∷ 1 ∷ []) $ by ! (leaves 𝓛 En hs c y val (pen, f') (tt, (tt, tt)) (tt, (tt, tt))))))))))))))))

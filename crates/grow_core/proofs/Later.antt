@@ -1,5 +1,5 @@
 -- Facts that a hand learns hold of it as it was before, when it had seen less.
-use Rattle.std.proofs.Common.{◌≡◌, ℕ, ◌+◌, ◌<◌, ◌≤◌, List, [], ◌∷◌, ◌++◌, Result, Ok, Err, IfOk, IfErr, length, refl, sym, ap, ◌∙◌, subst, arith, append_assoc}
+use Rattle.std.proofs.Common.{◌≡◌, ℕ, ◌+◌, ◌<◌, ◌≤◌, List, [], ◌∷◌, ◌++◌, Result, Ok, Err, IfOk, length, refl, sym, ap, ◌∙◌, subst, arith, append_assoc}
 use Rattle.std.specs.List.{sum}
 use Rattle.std.proofs.lemmas.List.{append-nil}
 use Rattle.std.proofs.lemmas.List.Sums.{sum_by-append}
@@ -105,12 +105,6 @@ refuses_after vector n given a b c e more still r = record {
   left = leaves_after vector n a b c e more still r.left;
   back = r.back;
 }
-
--- so of all that such a growth may return
-pub refusals_left_after : {X T V E : Type 0} (vector : VectorView T) (n : ℕ) (given : V) (a b c : HandView) (result : Result X (GrowError T V E))
-    → SeesMore a b → (IsWholeHand a → seen_size b ≡ seen_size a) → IfErr result (Refuses vector n given b c) → IfErr result (Refuses vector n given a c)
-refusals_left_after vector n given a b c (Ok x) more still r = tt
-refusals_left_after vector n given a b c (Err e) more still r = refuses_after vector n given a b c e more still r
 
 module _ {T : Type 0} (vector : VectorView T) (a b c : HandView) (more : SeesMore a b) (still : IsWholeHand a → seen_size b ≡ seen_size a) where
   -- a push won, and so it did by the hand as it was

@@ -1,21 +1,17 @@
 //! How one value is appended.
-ghost use Rattle.std.specs.Prelude.{◌≡◌, ◌<◌, ◌≤◌, IfOk, IfErr, IsErrAnd, IsTrue};
+ghost use Rattle.std.specs.Prelude.{◌≡◌, ◌<◌, IfOk, IfErr, IsErrAnd, IsTrue};
 ghost use Rattle.claim_core.specs.Hand.{seen_size};
 ghost use Rattle.grow_core.specs.Vector.{IsHandOf, limit_of};
 ghost use Rattle.grow_core.specs.Growth.{WonPlace, Refuses, HasNoRoom, SaysFull, IsNotMoved};
 ghost use Rattle.grow_core.specs.Logs.{LogsPush, LogsRefusal};
-ghost use Rattle.grow_core.specs.Segment.{IsSegmentOf, KnowsSegment};
-ghost use Rattle.grow_core.specs.Steps.{FindsMore};
 
 use crate::errors::{GrowError, Never};
-use crate::fill::Segment;
 use crate::hand::{Hand, claiming_laws};
-use crate::keys::{key_of, put_key};
+use crate::keys::key_of;
 use crate::token::Placed;
 use crate::vector::Shared;
-use claim_core::Moved;
+use claim_core::{Moved, laws};
 use seg_core::laws::places;
-use std::alloc::AllocError;
 use std::marker::Brand;
 use std::sync::Wait;
 
@@ -123,66 +119,6 @@ impl<T: Drop> Shared<T> {
         }
     }
 
-    // The segment of a place, which is installed if it is not there.
-    #[inline(always)]
-    fn reach(&self, hand: &mut Hand<T>, place: u64) -> Result<Segment<'_, T>, AllocError>
-        requires ours { IsHandOf self.now hand.old }
-        requires within { place < limit_of self.now }
-        ensures segment { IfOk result (IsSegmentOf self.now) }
-        ensures row { IfOk result (KnowsSegment hand.new) }
-        ensures from { IfOk result (λ segment. segment.from ≤ place) }
-        ensures before { IfOk result (λ segment. place < segment.end) }
-        ensures finds { FindsMore hand.old hand.new }
-    {
-        // For the proof: the hand keeps its places.
-        self.laws();
-        claiming_laws(&hand.claims);
-        let layout = self.table.layout();
-        let (segment, _) = layout.locate(place);
-        let key = self.key_for(&mut hand.claims, &mut hand.keys, segment)?;
-        let from = layout.first(segment);
-        Ok(Segment {
-            block: self.known_block(&key),
-            key,
-            from,
-            end: from + layout.len(segment),
-        })
-    }
-
-    // One try to append a value at the size that the hand has seen, which is in this segment.
-    #[inline(always)]
-    fn push_in(
-        &self,
-        hand: &mut Hand<T>,
-        segment: &Segment<'_, T>,
-        value: T,
-    ) -> Result<Placed<T>, GrowError<T, T, Never>>
-        requires ours { IsHandOf self.now hand.old }
-        requires segment { IsSegmentOf self.now segment.now }
-        requires row { KnowsSegment hand.old segment.now }
-        requires from { segment.now.from ≤ seen_size hand.old }
-        requires before { seen_size hand.old < segment.now.end }
-        requires room { seen_size hand.old < limit_of self.now }
-        ensures won { IfOk result (WonPlace self.now value hand.old hand.new) }
-        ensures refused { IfErr result (Refuses self.now 1 value hand.old hand.new) }
-        ensures logs { IfOk result (λ placed. LogsPush hand.old hand.new placed.place) }
-        ensures logs_refusal { IfErr result (LogsRefusal 1 hand.old hand.new) }
-    {
-        // For the proof: the hand keeps its places, and owns the one that it gains.
-        self.laws();
-        claiming_laws(&hand.claims);
-        places();
-        let from = hand.seen();
-        match self.word.exchange_as::<Brand>(&mut hand.claims, from, 1) {
-            Ok(_run) => {
-                put_key(&mut hand.keys, segment.key.segment(), segment.key.again());
-                Ok(self.fill(&mut hand.claims, segment, from, value))
-            }
-            Err(Moved { size }) if size >= self.limit() => Err(GrowError::Full { size, back: value }),
-            Err(Moved { size }) => Err(GrowError::Moved { size, back: value }),
-        }
-    }
-
     /// Appends a value like `try_push_back`, if the size now lies in the segment of the size that the hand has seen.
     /// Otherwise it returns `Moved`; the hand has then seen the size now, and the next try is in its segment. The
     /// segment is found before the size is loaded. So next to nothing lies between that load and the exchange, and of
@@ -202,27 +138,37 @@ impl<T: Drop> Shared<T> {
         ensures logs { IfOk result (λ placed. LogsPush hand.old hand.new placed.place) }
         ensures logs_refusal { IfErr result (LogsRefusal 1 hand.old hand.new) }
     {
-        // For the proof: what the hand has seen is within the limit.
+        // For the proof: the hand keeps its places, and owns the one that it gains; a refusal is legal at the size.
         self.laws();
+        claiming_laws(&hand.claims);
+        places();
+        laws::refusals_are_notes();
         let limit = self.limit();
         let seen = hand.seen();
         if seen >= limit {
             return self.push_at(hand, seen, value);
         }
-        let Ok(segment) = self.reach(hand, seen) else {
-            // For the proof: the hand keeps its places.
-            claiming_laws(&hand.claims);
+        let layout = self.table.layout();
+        let (segment, _) = layout.locate(seen);
+        let Ok(key) = self.key_for(&mut hand.claims, &mut hand.keys, segment) else {
             self.word.log_no_memory(&mut hand.claims);
             return Err(GrowError::NoMemory { back: value });
         };
-        let size = self.size_for(hand, 1);
-        if size >= limit {
-            return Err(GrowError::Full { size, back: value });
+        let block = self.known_block(&key);
+        let first = layout.first(segment);
+        let from = self.word.size_as::<Brand>(&mut hand.claims);
+        if from >= limit {
+            return Err(GrowError::Full { size: from, back: value });
         }
-        if size >= segment.end {
-            return Err(GrowError::Moved { size, back: value });
+        let offset = from - first;
+        if offset >= block.len() {
+            return Err(GrowError::Moved { size: from, back: value });
         }
-        self.push_in(hand, &segment, value)
+        match self.word.exchange_as::<Brand>(&mut hand.claims, from, 1) {
+            Ok(_run) => Ok(self.fill_cell(&mut hand.claims, block, key, from, offset, value)),
+            Err(Moved { size }) if size >= limit => Err(GrowError::Full { size, back: value }),
+            Err(Moved { size }) => Err(GrowError::Moved { size, back: value }),
+        }
     }
 
     /// Appends a value like `try_push_back`, and retries if another caller was first.

@@ -1,6 +1,6 @@
 //! Loads of the size that log what the size decides: a refusal, or that nothing has to be claimed.
 ghost use Rattle.std.specs.Prelude.{◌≡◌, ◌+◌, ◌-◌, ◌<◌, ◌≤◌, ◌∷◌, [], length};
-ghost use Rattle.claim_core.specs.Hand.{IsWholeHand, KeepsCells, SeesSize, seen_size};
+ghost use Rattle.claim_core.specs.Hand.{IsWholeHand, SeesSize, seen_size};
 ghost use Rattle.claim_core.specs.History.{AddsEvents, IsNote, claim_event, enough_event, full_event, past_event};
 ghost use Rattle.grow_core.specs.Vector.{IsHandOf, limit_of};
 ghost use Rattle.grow_core.specs.Logs.{LogsNothing};
@@ -21,7 +21,6 @@ impl<T> Shared<T> {
         ensures opened { length self.now.opened ≤ result }
         ensures logs { AddsEvents hand.old.log (N.note result) hand.new.log }
         ensures whole { IsWholeHand hand.old → result ≡ seen_size hand.old }
-        ensures cells { KeepsCells hand.old hand.new }
     {
         // Only the contract speaks of the number.
         let _ = about;
@@ -58,7 +57,6 @@ impl<T> Shared<T> {
         ensures full { 0 < n → limit_of self.now < result + n
             → AddsEvents hand.old.log (full_event n result ∷ []) hand.new.log }
         ensures goes_on { LogsNothing hand.old hand.new }
-        ensures cells { KeepsCells hand.old hand.new }
     {
         // For the proof: the refusal is legal at the size.
         laws::refusals_are_notes();

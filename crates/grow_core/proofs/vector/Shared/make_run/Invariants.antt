@@ -1,4 +1,4 @@
-use Rattle.std.proofs.Common.{◌≡◌, ◌+◌, ◌≤◌, List, length}
+use Rattle.std.proofs.Common.{◌≡◌, ◌+◌, ◌-◌, ◌≤◌, List, length}
 use Rattle.grow_core.specs.Making.{Makes}
 use Rattle.grow_core.specs.Filled.{IsFilledOf}
 use Rattle.grow_core.specs.Segment.{IsSegmentOf, KnowsSegment}

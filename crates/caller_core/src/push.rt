@@ -10,7 +10,7 @@ use crate::caller::Caller;
 use grow_core::{GrowError, Never};
 
 impl<T: Drop> Caller<T> {
-    /// Appends a value and returns its place. It tries once, from the size that the hand has seen.
+    /// Appends a value and returns its place. It tries once, at the size now.
     #[inline(always)]
     pub fn push(&mut self, value: T) -> Result<u64, GrowError<T, T, Never>>
         ensures pushed { IfOk result (Pushes value self.old self.new) }
@@ -23,9 +23,8 @@ impl<T: Drop> Caller<T> {
         ensures kept { KeepsCaller self.old self.new }
         ensures last { OnErr result (self.new.last ≡ self.old.last) }
     {
-        // The push wins the place that follows what the hand has seen, or none.
-        let place = self.hand.seen();
-        let placed = self.hub.vector.try_push_seen(&mut self.hand, value)?;
+        let placed = self.hub.vector.try_push_near(&mut self.hand, value)?;
+        let place = placed.place();
         self.last = Some(placed);
         Ok(place)
     }

@@ -1,9 +1,9 @@
 -- A hand after a claim, or a lost one, with the keys that it found before; and after it has worked on what it claimed.
-use Rattle.std.proofs.Common.{◌≡◌, ℕ, ◌+◌, ◌<◌, List, sym, ap, ◌∙◌, subst, arith}
+use Rattle.std.proofs.Common.{◌≡◌, ℕ, ◌+◌, ◌-◌, ◌<◌, ◌≤◌, List, sym, ap, ◌∙◌, subst, arith}
 use Rattle.std.specs.Prelude.{IsSome, slice_index}
 use Rattle.std.specs.List.{Contains}
 use mathlib.Core.List.{IsPrefix}
-use Rattle.seg_core.specs.Segment.{HasPlace, segment_count, segment_start}
+use Rattle.seg_core.specs.Segment.{HasPlace, segment_count, segment_end, segment_start}
 use Rattle.seg_core.specs.Laws.{OneSegment}
 use Rattle.claim_core.specs.declared.role.RowAt.{RowAt}
 use Rattle.claim_core.specs.declared.run.Run.{Run}
@@ -51,6 +51,16 @@ held_still a b from n row works holds =
     hand_still a b works.keeps (λ (at : RowAt) it. subst (λ (l : List RowAt). Contains l at) (sym works.rows) it) row holds
 
 -- ---- One push
+
+-- a place not before another one of the segment, and fewer places past its first than it has, is of the segment
+pub near_place : (f segment seen place first n : ℕ) → HasPlace f segment seen → seen ≤ place → first ≡ segment_start f segment
+    → segment_start f segment + n ≡ segment_end f segment → place - first < n → HasPlace f segment place × (segment_start f segment + (place - first) ≡ place)
+near_place f segment seen place first n here after is long inside = let begin = here.from in
+    (record { from = omega (arith, begin, after); before = omega (arith, begin, after, is, long, inside) }, omega (arith, begin, after, is))
+
+-- what the hand knows of cells after two steps that change none of it
+pub cells_on : (a b c : HandView) → KeepsCells a b → KeepsCells b c → KeepsCells a c
+cells_on a b c p q = record { begun = q.begun ∙ p.begun; rows = q.rows ∙ p.rows; laid = q.laid ∙ p.laid }
 
 module _ {T : Type 0} (vector : VectorView T) where
   -- a place of a segment that the hand has found is a cell of its block

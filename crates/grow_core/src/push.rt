@@ -10,7 +10,7 @@ use crate::hand::{Hand, claiming_laws};
 use crate::keys::key_of;
 use crate::token::Placed;
 use crate::vector::Shared;
-use claim_core::Moved;
+use claim_core::{Moved, laws};
 use seg_core::laws::places;
 use std::marker::Brand;
 use std::sync::Wait;
@@ -119,8 +119,59 @@ impl<T: Drop> Shared<T> {
         }
     }
 
-    /// Appends a value like `try_push_back`, but begins at the size that the hand has seen, and retries if
-    /// another caller was first.
+    /// Appends a value like `try_push_back`, if the size now lies in the segment of the size that the hand has seen.
+    /// Otherwise it returns `Moved`; the hand has then seen the size now, and the next try is in its segment. The
+    /// segment is found before the size is loaded. So next to nothing lies between that load and the exchange, and of
+    /// several threads fewer lose their exchange.
+    #[inline(always)]
+    pub fn try_push_near(
+        &self,
+        hand: &mut Hand<T>,
+        value: T,
+    ) -> Result<Placed<T>, GrowError<T, T, Never>>
+        requires ours { IsHandOf self.now hand.old }
+        ensures won { IfOk result (WonPlace self.now value hand.old hand.new) }
+        ensures refused { IfErr result (Refuses self.now 1 value hand.old hand.new) }
+        // Room that is missing by what the hand has seen is reported before memory is asked for.
+        ensures full { HasNoRoom self.now 1 hand.old → IsErrAnd result SaysFull }
+        // The history gets the claim of the place and its fill, or the event whose reply the refusal is.
+        ensures logs { IfOk result (λ placed. LogsPush hand.old hand.new placed.place) }
+        ensures logs_refusal { IfErr result (LogsRefusal 1 hand.old hand.new) }
+    {
+        // For the proof: the hand keeps its places, and owns the one that it gains; a refusal is legal at the size.
+        self.laws();
+        claiming_laws(&hand.claims);
+        places();
+        laws::refusals_are_notes();
+        let limit = self.limit();
+        let seen = hand.seen();
+        if seen >= limit {
+            return self.push_at(hand, seen, value);
+        }
+        let layout = self.table.layout();
+        let (segment, _) = layout.locate(seen);
+        let Ok(key) = self.key_for(&mut hand.claims, &mut hand.keys, segment) else {
+            self.word.log_no_memory(&mut hand.claims);
+            return Err(GrowError::NoMemory { back: value });
+        };
+        let block = self.known_block(&key);
+        let first = layout.first(segment);
+        let from = self.word.size_as::<Brand>(&mut hand.claims);
+        if from >= limit {
+            return Err(GrowError::Full { size: from, back: value });
+        }
+        let offset = from - first;
+        if offset >= block.len() {
+            return Err(GrowError::Moved { size: from, back: value });
+        }
+        match self.word.exchange_as::<Brand>(&mut hand.claims, from, 1) {
+            Ok(_run) => Ok(self.fill_cell(&mut hand.claims, block, key, from, offset, value)),
+            Err(Moved { size }) if size >= limit => Err(GrowError::Full { size, back: value }),
+            Err(Moved { size }) => Err(GrowError::Moved { size, back: value }),
+        }
+    }
+
+    /// Appends a value like `try_push_back`, and retries if another caller was first.
     #[inline(always)]
     pub fn push_back<R: Wait>(
         &self,
@@ -138,8 +189,7 @@ impl<T: Drop> Shared<T> {
         ensures logs_refusal { IfErr result (LogsRefusal 1 hand.old hand.new) }
     {
         for _try in rt.forever() {
-            let from = hand.seen();
-            match self.push_at(hand, from, value) {
+            match self.try_push_near(hand, value) {
                 Ok(placed) => return Ok(placed),
                 Err(GrowError::Moved { size: _, back }) => value = back,
                 Err(refused) => return Err(refused),

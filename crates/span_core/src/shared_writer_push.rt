@@ -73,6 +73,26 @@ impl<T: Drop> SharedWriter<T> {
         self.vector.try_push_seen(&mut self.hand, value)
     }
 
+    /// Appends a value like `try_push_back`, if the size now lies in the segment of the size that the hand has seen.
+    /// Otherwise it returns `Moved`, and the next try is in the segment of the size now. Of several threads fewer lose
+    /// their exchange.
+    #[inline(always)]
+    pub fn try_push_near(&mut self, value: T) -> Result<Placed<T>, GrowError<T, T, Never>>
+        ensures won { IfOk result (WonPlace self.old.vector value self.old.hand self.new.hand) }
+        ensures refused { IfErr result
+            (Refuses self.old.vector 1 value self.old.hand self.new.hand) }
+        // Room that is missing by what the hand has seen is reported before memory is asked for.
+        ensures full { HasNoRoom self.old.vector 1 self.old.hand → IsErrAnd result SaysFull }
+        // The history gets the claim of the place and its fill, or the event whose reply the refusal is.
+        ensures logs { IfOk result
+            (λ placed. LogsPush self.old.hand self.new.hand placed.place) }
+        ensures logs_refusal { IfErr result
+            (LogsRefusal 1 self.old.hand self.new.hand) }
+        ensures vector { self.new.vector ≡ self.old.vector }
+    {
+        self.vector.try_push_near(&mut self.hand, value)
+    }
+
     /// Tests whether there is room at the size that the hand has seen, and the hand has the key of the segment there.
     /// Then `try_push_seen` requests no memory.
     /// The hand does not learn the segments that `reserve` installs; a push there requests no memory either.

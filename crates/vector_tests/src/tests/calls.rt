@@ -34,8 +34,9 @@ pub(super) enum Call {
     Make(Form, u64, u64),
     // A number of clones of a value.
     Clones(u64, u64),
-    // A push that begins at what the hand has seen.
+    // A push that begins at what the hand has seen, and one in the segment of that.
     PushSeen(u64),
+    PushNear(u64),
     // Copies of these values, or a number of copies of one value.
     Copy(Form, &'static [u64]),
     Copies(Form, u64, u64),
@@ -99,6 +100,7 @@ pub(super) fn by_hand<R: AllocGlobal + Wait>(
         Call::Make(form, n, refused) => make_sevens(rt, vector, hand, form, n, refused),
         Call::Clones(n, value) => reply_of_clones(vector.grow_by(rt, hand, n, &value)),
         Call::PushSeen(value) => reply_of_push(vector.try_push_seen(hand, value), value),
+        Call::PushNear(value) => reply_of_push(vector.try_push_near(hand, value), value),
         Call::Copy(form, values) => copy_slice(rt, vector, hand, form, values),
         Call::Copies(form, n, value) => copy_value(rt, vector, hand, form, n, value),
         Call::Break(form, n) => break_places(rt, vector, hand, form, n),

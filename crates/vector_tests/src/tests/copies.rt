@@ -1,7 +1,7 @@
 // Pushes that begin at what their hand has seen, copies, and places that are broken on purpose.
 use super::edits::Edit::Members;
 use super::edits::Found::Done;
-use super::steps::Call::{Break, Copies, Copy, Mend, PushSeen, Seen, Size, TryPush};
+use super::steps::Call::{Break, Copies, Copy, Mend, PushNear, PushSeen, Seen, Size, TryPush};
 use super::steps::Reply::{At, Broken, Full, Is, Moved, Ran};
 use super::steps::Step::{A, B, Look, Walk};
 use super::steps::{Form, Reply, Step, ends_after, first_wrong};
@@ -24,6 +24,27 @@ static SEEN: [(Step, Reply); 10] = [
 #[test]
 fn a_push_at_a_size_that_has_moved_gives_its_value_back(rt: HostRuntime) {
     assert_eq!(rt; first_wrong(&rt, 4, &SEEN), None);
+}
+
+// Segments begin at places 0, 2 and 4. A hand that has not seen the other's push wins the next place of its segment, and
+// none of another one.
+static NEAR: [(Step, Reply); 11] = [
+    (A(PushNear(5)), At(0)),
+    (B(PushNear(6)), At(1)),
+    (B(PushNear(7)), At(2)),
+    (A(PushNear(8)), Moved),
+    (A(Seen), Is(3)),
+    (A(PushNear(8)), At(3)),
+    (B(TryPush(9)), At(4)),
+    (A(PushNear(1)), Full(5)),
+    (A(Seen), Is(5)),
+    (A(PushNear(1)), Full(5)),
+    (Walk(&[5, 6, 7, 8, 9]), Reply::Done),
+];
+
+#[test]
+fn a_push_in_a_segment_that_is_full_gives_its_value_back(rt: HostRuntime) {
+    assert_eq!(rt; first_wrong(&rt, 5, &NEAR), None);
 }
 
 // Copies of values and of a value, none of either, and too many.

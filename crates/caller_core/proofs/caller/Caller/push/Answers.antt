@@ -1,4 +1,4 @@
-use Rattle.std.proofs.Common.{◌∙◌, refl, sym, subst}
+use Rattle.std.proofs.Common.{refl, sym, subst}
 use Rattle.grow_core.specs.Growth.{WonPlace}
 use Rattle.caller_core.specs.Caller.{CallerView}
 use Rattle.caller_core.proofs.caller.Caller.push.Goals as goal
@@ -8,10 +8,10 @@ returns-clause-pushed g c =
     record {
       token = c.in_ok-placed.placed;
       last = refl;
-      here = c.in_ok-placed.ensures.here ∙ sym c.seen-place.ensures;
+      here = sym c.place-place.ensures;
       won =
-          subst (λ (w : CallerView _). WonPlace w.vector c.args.value w.hand c.try_push_seen.new.hand c.in_ok-placed.placed)
+          subst (λ (w : CallerView _). WonPlace w.vector c.args.value w.hand c.try_push_near.new.hand c.in_ok-placed.placed)
           c.self.view_is
-          (subst (λ h. WonPlace h.vector c.args.value c.self.inside.hand c.try_push_seen.new.hand c.in_ok-placed.placed)
+          (subst (λ h. WonPlace h.vector c.args.value c.self.inside.hand c.try_push_near.new.hand c.in_ok-placed.placed)
           c.deref.ensures c.in_ok-placed.ensures.won);
     }

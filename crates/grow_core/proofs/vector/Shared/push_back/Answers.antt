@@ -10,7 +10,7 @@ pub returns-in-Ok-clause-won : goal.returns-in-Ok-clause-won
 returns-in-Ok-clause-won g c =
     let kept = c.loop-try.invariant in
     won_place_after _ _ _ _ kept.2 (λ whole. ap seen_size (kept.3 whole)) _ _
-    (subst (λ v. WonPlace c.args.self.now v c.loop-try.hand c.push_at.new.hand c.in-Ok.placed) kept.5 c.in-Ok.ensures.won)
+    (subst (λ v. WonPlace c.args.self.now v c.loop-try.hand c.try_push_near.new.hand c.in-Ok.placed) kept.5 c.in-Ok.ensures.won)
 
 pub returns-in-Ok-clause-logs : goal.returns-in-Ok-clause-logs
 returns-in-Ok-clause-logs g c = win_after _ _ _ c.loop-try.invariant.6 _ AllFilled _ c.in-Ok.ensures.logs

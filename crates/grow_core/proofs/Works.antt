@@ -23,7 +23,7 @@ use Rattle.grow_core.specs.Steps.{KeepsHand, FindsMore, WorksIn, AddsAt, AddsAlo
 use Rattle.grow_core.proofs.Logs.{nothing_after}
 use Rattle.grow_core.proofs.Adds.{prefix_same, steps_after, steps_join, fills_join}
 
-keeps_both : (a b c : HandView) → KeepsHand a b → KeepsHand b c → KeepsHand a c
+pub keeps_both : (a b c : HandView) → KeepsHand a b → KeepsHand b c → KeepsHand a c
 keeps_both a b c p q = record {
   own = record { of = q.own.of ∙ p.own.of; mine = q.own.mine ∙ p.own.mine; shares = q.own.shares ∙ p.own.shares };
   seen = q.seen ∙ p.seen;
@@ -69,6 +69,12 @@ module _ (a b : HandView) where
         ⊎_elim (λ (here : (from ≤ place) × (place < from + m)). absurd (omega (arith, here.1, above, at)))
         (λ (before : Contains a.begun place). fresh place (omega (arith, above, at)) (omega (arith, below, at, sum)) before)
         (works.begun place it)
+
+    -- so are those before them
+    pub fresh_before : WorksIn a b next n → AreFresh a from all → AreFresh b from m
+    fresh_before works fresh place above below it =
+        ⊎_elim (λ (here : (next ≤ place) × (place < next + n)). absurd (omega (arith, here.0, below, at)))
+        (λ (before : Contains a.begun place). fresh place above (omega (arith, below, sum)) before) (works.begun place it)
 
   -- the same places twice
   pub works_twice : (c : HandView) (from n : ℕ) → WorksIn a b from n → WorksIn b c from n → WorksIn a c from n
@@ -255,3 +261,17 @@ pub at_after : (a b c : HandView) (place : ℕ) (event : ℕ → Event × Reply)
     → AddsAt b c place event → AddsAt a c place event
 at_after a b c place event works at index owns =
     steps_after a.log b.log c.log (step_of (event index)) works.more (at index (owns_still a b works.keeps index place owns))
+
+-- places that are filled in two parts, after a hand has begun some of them
+pub along_both : (h a b c : HandView) (from m next n all : ℕ) → from + m ≡ next → m + n ≡ all → KeepsHand h a → IsPrefix h.log a.log → KeepsHand a b
+    → AddsAlong a b from m (λ index. fill_steps index from m) → AddsAlong b c next n (λ index. fill_steps index next n)
+    → AddsAlong h c from all (λ index. fill_steps index from all)
+along_both h a b c from m next n all at sum keeps more keeps' first rest index owns =
+    let one = first index (λ i less. owns_still h a keeps index (from + i) (owns i (omega (arith, less, sum)))) in
+    let later = λ (i : ℕ) (less : i < n).
+    let here : from + (m + i) ≡ next + i = omega (arith, at) in
+    subst (λ (place : ℕ). OwnsPlaceAt h index place) here (owns (m + i) (omega (arith, less, sum))) in
+    let two = rest index (λ i less. owns_still h b (keeps_both h a b keeps keeps') index (next + i) (later i less)) in
+    let whole = ap (λ (k : ℕ). fill_steps index from k) (sym sum) ∙ fills_join index from m n next at in
+    subst (λ (s : List Log). Adds h.log s c.log) (sym whole)
+    (steps_join h.log b.log c.log (fill_steps index from m) (fill_steps index next n) (steps_after h.log a.log b.log (fill_steps index from m) more one) two)

@@ -12,9 +12,9 @@
 //! that never met.
 //!
 //! The code is safe, over `claim_core`, `table_core` and `cell_core`: the segments of the wanted places
-//! are installed, the places are won by one exchange of the claim word, and each is filled by two atomic
-//! steps on its cell's state, up to sixteen together if the call has their values. A hand carries the keys
-//! of its runs' segments (`specs/Keys.antt`). Only the calls that take a runtime may wait: `push_back`,
+//! are installed, the places are won by one exchange of the claim word, and each value is published by one
+//! atomic step on the state of its cell, up to sixteen by the same step if the call has them all. A hand
+//! carries the keys of its runs' segments (`specs/Keys.antt`). Only the calls that take a runtime may wait: `push_back`,
 //! `grow_vec`, `append`, `grow_with`, `grow_by`, `grow_from`, `grow_copies` and `break_run`.
 //!
 //! A `Parts` is what an exclusive owner holds of a vector. Contracts see it as a list of values and broken
@@ -26,6 +26,7 @@ mod break_run;
 mod claim;
 mod close;
 mod copy;
+mod copy_run;
 mod errors;
 mod fill;
 mod filled;

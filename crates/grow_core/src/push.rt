@@ -158,11 +158,17 @@ impl<T: Drop> Shared<T> {
         let first = layout.first(segment);
         let from = self.word.size_as::<Brand>(&mut hand.claims);
         if from >= limit {
-            return Err(GrowError::Full { size: from, back: value });
+            return Err(GrowError::Full {
+                size: from,
+                back: value,
+            });
         }
         let offset = from - first;
         if offset >= block.len() {
-            return Err(GrowError::Moved { size: from, back: value });
+            return Err(GrowError::Moved {
+                size: from,
+                back: value,
+            });
         }
         match self.word.exchange_as::<Brand>(&mut hand.claims, from, 1) {
             Ok(_run) => Ok(self.fill_cell(&mut hand.claims, block, key, from, offset, value)),

@@ -5,9 +5,9 @@ use std::marker::Copy;
 
 /// A list of values that are made one by one, for `try_grow_source`.
 ///
-/// That call claims the run, then makes the values in order, and shows up to sixteen of them at once. So readers wait
-/// for a slow `value`; `try_grow_with` shows each value when it is made. No clause says when or how often a value is
-/// made.
+/// That call claims the run, and then makes up to 128 values before it shows the first of them, the later ones first. So
+/// readers wait for a slow `value`; `try_grow_with` shows each value when it is made. No clause says when or how often a
+/// value is made.
 pub trait Source<T> {
     ghost use Rattle.std.specs.Prelude.{List};
 

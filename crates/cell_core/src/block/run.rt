@@ -1,5 +1,5 @@
 // Runs: cells next to each other, whose states are in one word, that one call begins and fills together.
-ghost use Rattle.std.specs.Prelude.{◌≡◌, ◌+◌, ◌%◌, ◌<◌, ◌≤◌, ◌++◌, ◌∷◌, ◌⊎◌, [], length, IfSome};
+ghost use Rattle.std.specs.Prelude.{◌≡◌, ◌+◌, ◌-◌, ◌%◌, ◌<◌, ◌≤◌, ◌++◌, ◌∷◌, ◌⊎◌, [], length, IfSome};
 ghost use Rattle.cell_core.specs.Block.{block_len};
 ghost use Rattle.cell_core.specs.Laid.{word_cells};
 ghost use Rattle.cell_core.specs.Run.{IsRunPenAt, PartsFirst, cells_from, members_of};
@@ -52,6 +52,20 @@ impl<T, A: Allocator, B: Kind> Block<T, A, B> {
             ⊎ ((offset + result) % word_cells ≡ 0) }
     {
         (WORD_CELLS - offset % WORD_CELLS).min(self.len - offset)
+    }
+
+    /// Returns how many of `n` cells from an offset on have their states in one word with the last of them.
+    pub fn last_run(&self, offset: u64, n: u64) -> u64
+        requires some { 0 < n }
+        requires within { offset + n ≤ block_len self.now }
+        ensures some { 0 < result }
+        ensures few { result ≤ n }
+        ensures word { (offset + n - result) % word_cells + result ≤ word_cells }
+        ensures most { (result ≡ n) ⊎ ((offset + n - result) % word_cells ≡ 0) }
+    {
+        // For the proof: reading a field shows the type's invariant, and so that the sum fits.
+        let _len = self.len;
+        ((offset + n - 1) % WORD_CELLS + 1).min(n)
     }
 }
 

@@ -1,10 +1,17 @@
 // Pushes that begin at what their hand has seen, copies, and places that are broken on purpose.
+ghost use Rattle.std.specs.Prelude.{◌≡◌, ◌<◌, Some, length, replicate, slice_get};
+
+use super::callers::Callers;
 use super::edits::Edit::Members;
 use super::edits::Found::Done;
 use super::steps::Call::{Break, Copies, Copy, Mend, PushNear, PushSeen, Seen, Size, TryPush};
 use super::steps::Reply::{At, Broken, Full, Is, Moved, Ran};
 use super::steps::Step::{A, B, Look, Walk};
 use super::steps::{Form, Reply, Step, ends_after, first_wrong};
+use grow_core::{Shared, Source};
+use seg_core::Layout;
+use std::alloc::AllocGlobal;
+use std::sync::atomic::{AtomicU64, Ordering};
 
 // The second hand has not seen the first two pushes: it learns the size, and wins at its next try.
 static SEEN: [(Step, Reply); 10] = [
@@ -89,6 +96,69 @@ static SOURCES: [(Step, Reply); 6] = [
 #[test]
 fn the_values_of_a_source_fill_the_next_places_in_order(rt: HostRuntime) {
     assert_eq!(rt; first_wrong(&rt, 22, &SOURCES), None);
+}
+
+// `n` values that are 7. It counts those that are made while the vector shows another number of places than those of the
+// lines before.
+#[derive(Drop)]
+struct Watching<'a> {
+    vector: &'a Shared<u64>,
+    n: u64,
+    early: &'a AtomicU64,
+}
+
+impl Source<u64> for Watching<'_> {
+    ghost use Rattle.std.specs.Prelude.{replicate};
+
+    ghost values = { λ s. replicate s.n 7 };
+
+    fn len(&self) -> u64
+        ensures { result ≡ length (replicate self.now.n 7) }
+    {
+        self.n
+    }
+
+    fn value(&self, i: u64) -> u64
+        requires { i < length (replicate self.now.n 7) }
+        ensures { slice_get (replicate self.now.n 7) i ≡ Some result }
+    {
+        if self.vector.published_count() != i / 128 * 128 {
+            self.early.fetch_add(1, Ordering::SeqCst);
+        }
+        7
+    }
+}
+
+// How many of 500 values, in two segments, are made at another time than when the 128 before them are shown.
+fn count_early<R: AllocGlobal>(rt: &R) -> Option<u64> {
+    let layout = Layout::new(8)?;
+    let mut made = Callers::try_new_in(rt.alloc(), layout, 500);
+    let count = match &mut made {
+        Ok(two) => {
+            let early = AtomicU64::new(0);
+            let source = Watching {
+                vector: &two.vector,
+                n: 500,
+                early: &early,
+            };
+            let grown = two.vector.try_grow_source(&mut two.a, &source);
+            let is_so = grown.is_ok();
+            drop(grown);
+            if is_so {
+                Some(early.load(Ordering::SeqCst))
+            } else {
+                None
+            }
+        }
+        Err(_refused) => None,
+    };
+    drop(made);
+    count
+}
+
+#[test]
+fn copies_are_shown_when_128_of_them_are_written(rt: HostRuntime) {
+    assert_eq!(rt; count_early(&rt), Some(0));
 }
 
 // Two runs are broken on purpose, and one of their places is mended.

@@ -1,6 +1,6 @@
 use Rattle.std.proofs.Common.{◌++◌, ◌∷◌, [], ◌∙◌, sym, ap, arith}
 use Rattle.grow_core.proofs.Copying.{values_from_next}
-use Rattle.grow_core.proofs.copy.write_from.Goals as goal
+use Rattle.grow_core.proofs.copy_run.write_from.Goals as goal
 
 pub overflow_add-first : goal.overflow_add-first
 overflow_add-first g c = omega (arith, c.requires.small)

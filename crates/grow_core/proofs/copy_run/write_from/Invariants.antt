@@ -1,6 +1,6 @@
 use Rattle.std.proofs.Common.{◌≡◌}
 use Rattle.grow_core.specs.Stretch.{values_from}
-use Rattle.grow_core.proofs.copy.write_from.Given as goal
+use Rattle.grow_core.proofs.copy_run.write_from.Given as goal
 
 abbrev pub invariant-loop-i : goal.invariant-loop-i
 invariant-loop-i g l =

@@ -1,5 +1,5 @@
 //! Growths by copies: of the values of a slice, or of one value.
-ghost use Rattle.std.specs.Prelude.{◌≡◌, IfOk, IfErr, IsErrAnd, length, replicate};
+ghost use Rattle.std.specs.Prelude.{IfOk, IfErr, IsErrAnd, length, replicate};
 ghost use Rattle.grow_core.specs.Vector.{IsHandOf};
 ghost use Rattle.grow_core.specs.Growth.{WonRun, Refuses, HasNoRoom, SaysFull, IsNotMoved};
 ghost use Rattle.grow_core.specs.Logs.{LogsGrowth, LogsRefusal, AllFilled};

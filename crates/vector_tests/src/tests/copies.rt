@@ -98,34 +98,35 @@ fn the_values_of_a_source_fill_the_next_places_in_order(rt: HostRuntime) {
     assert_eq!(rt; first_wrong(&rt, 22, &SOURCES), None);
 }
 
-// `n` values that are 7. It counts those that are made while the vector shows another number of places than those of the
-// lines before.
+// `n` copies of a value. It counts those that are made while the vector shows another number of places than those before
+// the last multiple of 128.
 #[derive(Drop)]
 struct Watching<'a> {
     vector: &'a Shared<u64>,
     n: u64,
+    value: u64,
     early: &'a AtomicU64,
 }
 
 impl Source<u64> for Watching<'_> {
     ghost use Rattle.std.specs.Prelude.{replicate};
 
-    ghost values = { λ s. replicate s.n 7 };
+    ghost values = { λ w. replicate w.n w.value };
 
     fn len(&self) -> u64
-        ensures { result ≡ length (replicate self.now.n 7) }
+        ensures { result ≡ length (replicate self.now.n self.now.value) }
     {
         self.n
     }
 
     fn value(&self, i: u64) -> u64
-        requires { i < length (replicate self.now.n 7) }
-        ensures { slice_get (replicate self.now.n 7) i ≡ Some result }
+        requires { i < length (replicate self.now.n self.now.value) }
+        ensures { slice_get (replicate self.now.n self.now.value) i ≡ Some result }
     {
         if self.vector.published_count() != i / 128 * 128 {
             self.early.fetch_add(1, Ordering::SeqCst);
         }
-        7
+        self.value
     }
 }
 
@@ -139,6 +140,7 @@ fn count_early<R: AllocGlobal>(rt: &R) -> Option<u64> {
             let source = Watching {
                 vector: &two.vector,
                 n: 500,
+                value: 7,
                 early: &early,
             };
             let grown = two.vector.try_grow_source(&mut two.a, &source);

@@ -10,7 +10,8 @@ use crate::caller::Caller;
 use grow_core::{GrowError, Never};
 
 impl<T: Drop> Caller<T> {
-    /// Appends a value and returns its place. It tries once, at the size now.
+    /// Appends a value and returns its place. It tries once, at the size now, and returns `Moved` if that lies in another
+    /// segment than the size that the hand has seen.
     #[inline(always)]
     pub fn push(&mut self, value: T) -> Result<u64, GrowError<T, T, Never>>
         ensures pushed { IfOk result (Pushes value self.old self.new) }

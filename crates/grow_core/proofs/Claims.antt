@@ -52,7 +52,7 @@ held_still a b from n row works holds =
 
 -- ---- One push
 
--- a place not before another one of the segment, and fewer places past its first than it has, is of the segment
+-- a place is in a segment if one that is not after it is, and if fewer places lie before it there than the segment has
 pub near_place : (f segment seen place first n : ℕ) → HasPlace f segment seen → seen ≤ place → first ≡ segment_start f segment
     → segment_start f segment + n ≡ segment_end f segment → place - first < n → HasPlace f segment place × (segment_start f segment + (place - first) ≡ place)
 near_place f segment seen place first n here after is long inside = let begin = here.from in

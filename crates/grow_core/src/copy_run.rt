@@ -1,8 +1,8 @@
 // How a growth fills the places that it won with the values of a source.
 //
 // The values of up to 128 places are all written before the first of these places is shown. Then the words of their
-// states, which share a cache line, are changed one right after the other, so that a thread that fills the places next
-// to them takes that line once, and not once for each word.
+// states, which are 64 bytes or less, are changed one right after the other, so that a thread that fills the places next
+// to them takes a cache line of states once, and not once for each word.
 ghost use Rattle.std.specs.Prelude.{◌≡◌, ◌+◌, ◌-◌, ◌<◌, ◌≤◌, [], length};
 ghost use Rattle.seg_core.specs.Segment.{most_places};
 ghost use Rattle.cell_core.specs.Run.{cells_from, members_of};
@@ -23,7 +23,7 @@ use crate::vector::Shared;
 use cell_core::block::{Kind, Row, RunPen};
 use claim_core::{Hand as ClaimHand, Run, laws};
 
-// The places whose states are in one cache line.
+// The places whose states take 64 bytes, which is a cache line.
 const LINE_PLACES: u64 = 128;
 
 impl<T: Drop> Shared<T> {

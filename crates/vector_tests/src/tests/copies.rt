@@ -34,7 +34,7 @@ fn a_push_at_a_size_that_has_moved_gives_its_value_back(rt: HostRuntime) {
 }
 
 // Segments begin at places 0, 2 and 4. A hand that has not seen the other's push wins the next place of its segment, and
-// none of another one.
+// none of the next segment.
 static NEAR: [(Step, Reply); 11] = [
     (A(PushNear(5)), At(0)),
     (B(PushNear(6)), At(1)),
